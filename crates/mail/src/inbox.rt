@@ -1,0 +1,182 @@
+// B's inbox: the messages that B has received and not used up.
+ghost use mathlib.Core.Path.{_≡_};
+ghost use Prim.Native.Nat.{_≤_};
+ghost use lib.ListN.{length};
+ghost use Rattle.slots.specs.Slots.{entries, padded, pushed};
+ghost use Rattle.rules.specs.Messages.{ofKind as ofKindOf, ints, hasEnd, dropVal, dropEpoch, interruptOf};
+ghost use Rattle.rules.specs.PairSlots.{usedMessage, zeroMessage};
+ghost use Rattle.boundary.specs.InSlots.{deliverIn, deliversIn};
+ghost use Rattle.mail.specs.Mail.{wordOf, hearIn};
+use rules::EpochNo;
+use rules::Guest;
+use rules::Interrupt;
+use rules::Message;
+use rules::OpNo;
+
+// How many messages are in the inbox.
+pub fn count(xs: [Message; 128]) -> usize
+    ensures is { λ r. ⌜ r ≡ length (entries usedMessage xs) ⌝ }
+    ensures most { λ r. ⌜ r ≤ 128 ⌝ }
+{
+    let mut i = 0;
+    while i < 128 {
+        if xs[i].kind == 0 {
+            return i;
+        }
+        i += 1;
+    }
+    i
+}
+
+// The inbox with one more message, in its first free slot.
+pub fn receive(xs: [Message; 128], m: Message) -> [Message; 128]
+    ensures { λ r. ⌜ r ≡ pushed usedMessage xs m ⌝ }
+{
+    let n = count(xs);
+    let mut ys = xs;
+    if n < 128 {
+        ys[n] = m;
+    }
+    ys
+}
+
+// Whether a message is of this kind and of epoch e.
+fn of_kind(m: Message, kind: u8, e: EpochNo) -> bool
+    ensures { λ r. ⌜ r ≡ ofKindOf kind e m ⌝ }
+{
+    (m.epoch.0 == e.0) & (m.kind == kind)
+}
+
+// Whether [end, e] is in the inbox.
+pub fn has_end(xs: [Message; 128], e: EpochNo) -> bool
+    ensures { λ r. ⌜ r ≡ hasEnd e (entries usedMessage xs) ⌝ }
+{
+    let mut i = 0;
+    while i < 128 {
+        let x = xs[i];
+        if x.kind == 0 {
+            return false;
+        }
+        if of_kind(x, 4, e) {
+            return true;
+        }
+        i += 1;
+    }
+    false
+}
+
+// The word of the first message of this kind and of epoch e, else the word given: a Val's (1) or a Tme's (3) clock.
+pub fn first_word(xs: [Message; 128], kind: u8, e: EpochNo, word: u32) -> u32
+    ensures { λ r. ⌜ r ≡ wordOf kind e (entries usedMessage xs) word ⌝ }
+{
+    let mut i = 0;
+    while i < 128 {
+        let x = xs[i];
+        if x.kind == 0 {
+            return word;
+        }
+        if of_kind(x, kind, e) {
+            return x.word;
+        }
+        i += 1;
+    }
+    word
+}
+
+fn free() -> Message
+    ensures { λ r. ⌜ r ≡ zeroMessage ⌝ }
+{
+    Message {
+        kind: 0,
+        status: 0,
+        epoch: EpochNo(0),
+        op: OpNo(0),
+        word: 0,
+    }
+}
+
+// The inbox without the first Val of epoch e: the messages behind it move up, and zeros stand behind them.
+pub fn without_val(xs: [Message; 128], e: EpochNo) -> [Message; 128]
+    ensures { λ r. ⌜ r ≡ padded 128 zeroMessage (dropVal e (entries usedMessage xs)) ⌝ }
+{
+    let zero = free();
+    let mut ys = [zero; 128];
+    let mut found = false;
+    let mut j = 0;
+    let mut i = 0;
+    while i < 128 {
+        let x = xs[i];
+        if x.kind == 0 {
+            return ys;
+        }
+        i += 1;
+        if !found & of_kind(x, 1, e) {
+            found = true;
+        } else {
+            ys[j] = x;
+            j += 1;
+        }
+    }
+    ys
+}
+
+// The inbox without the messages of epoch e: the others move up, and zeros stand behind them.
+pub fn without_epoch(xs: [Message; 128], e: EpochNo) -> [Message; 128]
+    ensures { λ r. ⌜ r ≡ padded 128 zeroMessage (dropEpoch e (entries usedMessage xs)) ⌝ }
+{
+    let zero = free();
+    let mut ys = [zero; 128];
+    let mut j = 0;
+    let mut i = 0;
+    while i < 128 {
+        let x = xs[i];
+        if x.kind == 0 {
+            return ys;
+        }
+        i += 1;
+        if x.epoch.0 != e.0 {
+            ys[j] = x;
+            j += 1;
+        }
+    }
+    ys
+}
+
+// The interrupt that an Int carries.
+fn interrupt_of(m: Message) -> Interrupt
+    ensures { λ r. ⌜ r ≡ interruptOf m ⌝ }
+{
+    let op = m.op;
+    Interrupt {
+        status: m.status,
+        op,
+        word: m.word,
+    }
+}
+
+// An Int of epoch e is delivered; any other message is passed by.
+fn hear(g: Guest, m: Message, e: EpochNo) -> Guest
+    ensures { λ r. ⌜ r ≡ hearIn e g m ⌝ }
+{
+    if of_kind(m, 2, e) {
+        return boundary::deliver(g, interrupt_of(m));
+    }
+    g
+}
+
+// The Ints of epoch e are delivered, in inbox order.
+pub fn deliver_ints(g: Guest, xs: [Message; 128], e: EpochNo) -> Guest
+    ensures { λ r. ⌜ r ≡ deliversIn g (ints e (entries usedMessage xs)) ⌝ }
+{
+    let mut h = g;
+    let mut i = 0;
+    while i < 128 {
+        let x = xs[i];
+        if x.kind == 0 {
+            return h;
+        }
+        h = hear(h, x, e);
+        i += 1;
+    }
+    h
+}

@@ -1,0 +1,17 @@
+pub mod Choices
+pub mod Lists
+pub mod Ascending
+pub mod Effect
+pub mod Decode
+pub mod Boundary
+pub mod GuestWhole
+pub mod GuestSlots
+pub mod GuestKept
+pub mod GuestCases
+pub mod Parts
+pub mod Verdicts
+pub mod Operations
+pub mod Messages
+pub mod PairWhole
+pub mod PairSlots
+pub mod PairKept

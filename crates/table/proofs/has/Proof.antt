@@ -1,0 +1,41 @@
+use mathlib.Core.Path.{_∙_, _≡_, ap, refl, sym}
+use Prim.Native.Nat.{_-_, _≤_}
+use borrow.Author.Needs.{needs}
+use borrow.Author.Tests.{eq-eqb, ne-eqb}
+use lib.ListN.{drop}
+use Rattle.rules.specs.Guest.{listed}
+use Rattle.rules.specs.GuestSlots.{usedOp, zeroOp}
+use Rattle.slots.proofs.Entries.{entries-end, entries-go, entries-stop}
+use Rattle.slots.proofs.Lists.{any-here, any-later, any-nil}
+use Rattle.slots.proofs.Tests.{is-free, is-used}
+use Rattle.slots.specs.Slots.{entries}
+use Rattle.table.proofs.has.Statement.{statement}
+use Rattle.table.proofs.has.Tie as tie
+
+abbrev Inv-loop : tie.InvT-loop
+Inv-loop o xs i₀ i = (i ≤ 16) × (listed o (entries usedOp xs) ≡ listed o (entries usedOp (drop i xs)))
+
+abbrev μ-loop : tie.MeasureT-loop
+μ-loop o xs i₀ i = 16 - i
+
+loop-holds : tie.Need-loop-holds Inv-loop μ-loop
+loop-holds c = (search needs, refl)
+
+returns : tie.Need-returns Inv-loop μ-loop
+unfolding listed
+returns c = sym (c .before .before .before .before .loop .inv .1 ∙ ap (listed (c .before .before .before .before .before .args .o)) (entries-stop usedOp (c .before .before .before .before .before .args .t1) (c .before .before .before .before .loop .i) zeroOp (search needs) (is-free _ (c .if1 .taken))) ∙ any-nil _)
+
+returns-2 : tie.Need-returns-2 Inv-loop μ-loop
+unfolding listed
+returns-2 c = sym (c .before .before .before .before .before .before .before .loop .inv .1 ∙ ap (listed (c .before .before .before .before .before .before .before .before .args .o)) (entries-go usedOp (c .before .before .before .before .before .before .before .before .args .t1) (c .before .before .before .before .before .before .before .loop .i) zeroOp (search needs) (is-used _ (c .before .before .before .if1 .left))) ∙ any-here _ _ _ (eq-eqb _ _ (c .if2 .taken)))
+
+loop-again : tie.Need-loop-again Inv-loop μ-loop
+unfolding listed
+loop-again c = (search needs, c .before .before .before .before .before .before .before .loop .inv .1 ∙ ap (listed (c .before .before .before .before .before .before .before .before .args .o)) (entries-go usedOp (c .before .before .before .before .before .before .before .before .args .t1) (c .before .before .before .before .before .before .before .loop .i) zeroOp (search needs) (is-used _ (c .before .before .before .if1 .left))) ∙ any-later _ _ _ (ne-eqb _ _ (c .if2 .left)))
+
+returns-3 : tie.Need-returns-3 Inv-loop μ-loop
+unfolding listed
+returns-3 c = sym (c .before .loop .inv .1 ∙ ap (listed (c .before .before .args .o)) (entries-end usedOp (c .before .before .args .t1) (c .before .loop .i) (search needs)) ∙ any-nil _)
+
+pub has-spec : {M : Type 1} → statement M
+has-spec = tie.close (tie.spec Inv-loop μ-loop loop-holds (λ c. search needs) (λ c. search needs) returns returns-2 (λ c. search needs) (λ c. search needs) loop-again returns-3)

@@ -1,0 +1,39 @@
+use mathlib.Core.Bool.{not}
+use mathlib.Core.Path.{_∙_, ap}
+use Prim.Native.Nat.{_-_, _≤_}
+use borrow.Author.Needs.{needs}
+use borrow.Author.Tests.{eq-eqb, ne-eqb}
+use lib.ListN.{drop}
+use Rattle.rules.specs.Boundary.{otherOp}
+use Rattle.rules.specs.GuestSlots.{usedOp, zeroOp}
+use Rattle.slots.proofs.Entries.{entries-end, entries-go, entries-stop}
+use Rattle.slots.proofs.Filling.{Filling, filling-end, filling-more, filling-skip, filling-start}
+use Rattle.slots.proofs.Lists.{keep-in, keep-nil, keep-out}
+use Rattle.slots.proofs.Tests.{is-free, is-used}
+use Rattle.slots.specs.Slots.{entries, keep}
+use Rattle.table.proofs.strike.Statement.{statement}
+use Rattle.table.proofs.strike.Tie as tie
+
+abbrev Inv-loop : tie.InvT-loop
+Inv-loop o xs ys₀ j₀ i₀ ys j i = (i ≤ 16) × (j ≤ i) × Filling 16 zeroOp (keep (otherOp o) (entries usedOp xs)) (keep (otherOp o) (entries usedOp (drop i xs))) ys j
+
+abbrev μ-loop : tie.MeasureT-loop
+μ-loop o xs ys₀ j₀ i₀ ys j i = 16 - i
+
+loop-holds : tie.Need-loop-holds Inv-loop μ-loop
+loop-holds c = (search needs, search needs, filling-start)
+
+returns : tie.Need-returns Inv-loop μ-loop
+returns c = filling-end (c .before .before .before .before .loop .inv .2) (ap (keep _) (entries-stop usedOp (c .before .before .before .before .before .args .t1) (c .before .before .before .before .loop .i) zeroOp (search needs) (is-free _ (c .if1 .taken))) ∙ keep-nil _)
+
+loop-again : tie.Need-loop-again Inv-loop μ-loop
+loop-again c = (search needs, search needs, filling-more (c .before .before .before .before .before .before .before .loop .inv .2) (ap (keep _) (entries-go usedOp (c .before .before .before .before .before .before .before .before .args .t1) (c .before .before .before .before .before .before .before .loop .i) zeroOp (search needs) (is-used _ (c .before .before .before .if1 .left))) ∙ keep-in _ _ _ (ap not (ne-eqb _ _ (c .if2 .taken)))) (search needs))
+
+loop-again-2 : tie.Need-loop-again-2 Inv-loop μ-loop
+loop-again-2 c = (search needs, search needs, filling-skip (c .before .before .before .before .before .before .before .loop .inv .2) (ap (keep _) (entries-go usedOp (c .before .before .before .before .before .before .before .before .args .t1) (c .before .before .before .before .before .before .before .loop .i) zeroOp (search needs) (is-used _ (c .before .before .before .if1 .left))) ∙ keep-out _ _ _ (ap not (eq-eqb _ _ (c .if2 .left)))))
+
+returns-2 : tie.Need-returns-2 Inv-loop μ-loop
+returns-2 c = filling-end (c .before .loop .inv .2) (ap (keep _) (entries-end usedOp (c .before .before .args .t1) (c .before .loop .i) (search needs)) ∙ keep-nil _)
+
+pub strike-spec : {M : Type 1} → statement M
+strike-spec = tie.close (tie.spec Inv-loop μ-loop loop-holds (λ c. search needs) (λ c. search needs) returns (λ c. search needs) (λ c. search needs) (λ c. search needs) (λ c. search needs) (λ c. search needs) loop-again (λ c. search needs) loop-again-2 returns-2)
