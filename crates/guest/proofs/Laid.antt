@@ -5,8 +5,8 @@ use mathlib.Core.Path.{_∙_, _≡_, ap, refl}
 use Prim.Native.Nat.{ℕ}
 use Rattle.rules.proofs.GuestSlots.{FitsGuest, queue-room, room-start, seen-laid}
 use Rattle.rules.specs.Guest.{onward, withQueue, withReg}
-use Rattle.rules.specs.GuestSlots.{laidGuest, laidRan, usedInterrupt, usedOp, zeroInterrupt, zeroOp}
-use Rattle.rules.specs.Instruction.{cannotStart, moved, nextOp, perform, quiet, start, starts, take}
+use Rattle.rules.specs.GuestSlots.{laidGuest, laidRan, seenGuest, usedInterrupt, usedOp, zeroInterrupt, zeroOp}
+use Rattle.rules.specs.Instruction.{cannotStart, complete, moved, next, nextOp, perform, quiet, start, starts, take}
 use Rattle.rules.specs.declared.Guest.{Guest}
 use Rattle.rules.specs.declared.Instr.{Instr}
 use Rattle.rules.specs.declared.Instr.the-variants.{Add, Div, Jz, Load, Nop, SetTo, Start, Store, Sub, Take, Time, Timer}
@@ -14,7 +14,7 @@ use Rattle.rules.specs.declared.Interrupt.{Interrupt}
 use Rattle.rules.specs.declared.OpNo.{OpNo}
 use Rattle.slots.proofs.Padded.{entries-padded, pushed-padded}
 use Rattle.slots.specs.Slots.{entries, padded, pick, pushed}
-use Rattle.guest.specs.InSlots.{inTable, laidQueue, performIn, startIn, takeIn}
+use Rattle.guest.specs.InSlots.{inTable, instructionIn, laidQueue, performIn, startIn, takeIn}
 
 -- the queue that is laid out is seen again
 queue-again : (g : Guest) → FitsGuest g → entries usedInterrupt (padded 17 zeroInterrupt (g .queue)) ≡ g .queue
@@ -49,3 +49,8 @@ laid-perform (Take x y z) g f n c = ap (λ (h : Guest). quiet (onward h n)) (lai
 laid-perform (Time x) g f n c = refl
 laid-perform (Start x y z) g f n c = ap (moved n) (laid-start g f x y z)
 laid-perform (Timer x) g f n c = refl
+
+-- one instruction of an epoch that is not complete, on a guest that is what it holds, laid out
+pub laid-instruction : (i : Instr) (g : Guest) (n l c : ℕ) → g ≡ laidGuest (seenGuest g) → FitsGuest (seenGuest g) → complete l g ≡ false → instructionIn i g n l c ≡ laidRan (perform i (seenGuest g) (next n g) c)
+unfolding instructionIn
+laid-instruction i g n l c again f e = rw e (ap (λ (h : Guest). performIn i h (next n g) c) again ∙ laid-perform i (seenGuest g) f (next n g) c)

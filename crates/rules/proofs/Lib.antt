@@ -15,3 +15,4 @@ pub mod Messages
 pub mod PairWhole
 pub mod PairSlots
 pub mod PairKept
+pub mod Cases

@@ -82,7 +82,7 @@ tight-pair s f =
 
 -- ---- a pair in memory whose slots are tight is what it holds, laid out
 
-zero-message : (m : Message) → isZeroMessage m ≡ true → m ≡ zeroMessage
+pub zero-message : (m : Message) → isZeroMessage m ≡ true → m ≡ zeroMessage
 zero-message m h =
     let a = and-true (eqb (m .kind) 0 && eqb (m .status) 0 && eqb (m .epoch .0) 0 && eqb (m .op .0) 0) (eqb (m .word) 0) h in
     let b = and-true (eqb (m .kind) 0 && eqb (m .status) 0 && eqb (m .epoch .0) 0) (eqb (m .op .0) 0) (a .0) in

@@ -16,3 +16,4 @@ pub mod PairKept
 pub mod Bytes
 pub mod History
 pub mod Lone
+pub mod Cases

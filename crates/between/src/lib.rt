@@ -1,0 +1,97 @@
+// The events between the cards: LINK, ACK, FAIL, DETECT. Each is met by a sound pair: `step` asks for that once.
+ghost use mathlib.Core.Path.{_≡_};
+ghost use mathlib.Core.List.{[]};
+ghost use Rattle.rules.specs.declared.Event.the-variants.{Link, Ack, Fail, Detect};
+ghost use Rattle.pair.specs.Tidy.{Tidy, does};
+use rules::Outcome;
+use rules::Pair;
+use rules::Phase;
+use rules::Refusal;
+use rules::Shown;
+
+// LINK: "oldest message moves to B's inbox (128), acknowledgement sets out" (P4); "none in flight 4; inbox full 6".
+pub fn link(pair: Pair) -> Outcome
+    requires { ⌜ Tidy pair ⌝ }
+    ensures { λ r. ⌜ r ≡ does [] pair Link ⌝ }
+{
+    let sent = pair.link;
+    if mail::link::count(sent) == 0 {
+        return pair::refused(pair, Refusal::MustWait);
+    }
+    let inbox = pair.inbox;
+    if 128 <= mail::inbox::count(inbox) {
+        return pair::refused(pair, Refusal::InboxFull);
+    }
+    let left = mail::link::without_oldest(sent);
+    let more = mail::inbox::receive(inbox, mail::link::oldest(sent));
+    let mut next = pair;
+    next.link = left;
+    next.acks = pair.acks + 1;
+    next.inbox = more;
+    pair::taken(next, Shown::Nothing)
+}
+
+// ACK: "P receives one acknowledgement"; "failed 2; none in flight 4".
+pub fn ack(pair: Pair) -> Outcome
+    requires { ⌜ Tidy pair ⌝ }
+    ensures { λ r. ⌜ r ≡ does [] pair Ack ⌝ }
+{
+    let phase = pair.phase;
+    if pair::is_failed(phase) {
+        return pair::refused(pair, Refusal::Dead);
+    }
+    if pair.acks == 0 {
+        return pair::refused(pair, Refusal::MustWait);
+    }
+    let mut next = pair;
+    next.acks = pair.acks - 1;
+    pair::taken(next, Shown::Nothing)
+}
+
+// FAIL: "P halts for good, clock sent becomes 0": the clock sent is kept in the phase, while P waits. "failed 2".
+pub fn fail(pair: Pair) -> Outcome
+    requires { ⌜ Tidy pair ⌝ }
+    ensures { λ r. ⌜ r ≡ does [] pair Fail ⌝ }
+{
+    let was = pair.phase;
+    if pair::is_failed(was) {
+        return pair::refused(pair, Refusal::Dead);
+    }
+    let p = pair.p;
+    let phase = Phase::Failed;
+    let b = pair.b;
+    let role = pair.role;
+    let link = pair.link;
+    let inbox = pair.inbox;
+    let next = Pair {
+        p,
+        phase,
+        b,
+        role,
+        detected: pair.detected,
+        limit: pair.limit,
+        count: pair.count,
+        link,
+        acks: pair.acks,
+        inbox,
+    };
+    pair::taken(next, Shown::Nothing)
+}
+
+// DETECT: "B learns of it"; "not failed, or detected 3; message in flight 4".
+pub fn detect(pair: Pair) -> Outcome
+    requires { ⌜ Tidy pair ⌝ }
+    ensures { λ r. ⌜ r ≡ does [] pair Detect ⌝ }
+{
+    let phase = pair.phase;
+    if !pair::is_failed(phase) | pair.detected {
+        return pair::refused(pair, Refusal::OutOfTurn);
+    }
+    let sent = pair.link;
+    if mail::link::count(sent) != 0 {
+        return pair::refused(pair, Refusal::MustWait);
+    }
+    let mut next = pair;
+    next.detected = true;
+    pair::taken(next, Shown::Nothing)
+}

@@ -1,0 +1,2 @@
+// The monitor: from an event's bytes to the outcome.
+pub mod event;
