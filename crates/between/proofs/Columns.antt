@@ -1,7 +1,6 @@
 -- What each event between the cards comes to on a sound pair: refused by its column, or taken.
 use mathlib.Core.Bool.{_||_, false, not, true}
 use mathlib.Core.List.{List, [], _∷_}
-use mathlib.Core.Option.{some}
 use mathlib.Core.Path.{_∙_, _≡_, ap, refl}
 use Prim.Native.Nat.{_+_, _-_, _<_, _≤_, pred, suc, zero, ℕ}
 use borrow.Author.Tests.{eq-eqb, le-leb, lt-leb, ne-eqb}
@@ -14,7 +13,6 @@ use Rattle.pair.proofs.Goes.{b-again, does-refused, does-taken, inbox-more, p-a
 use Rattle.pair.specs.Made.{done}
 use Rattle.pair.specs.Tidy.{Tidy, does}
 use Rattle.rules.proofs.PairWhole.{at-most-58, buffered, whole}
-use Rattle.rules.specs.Decode.{none}
 use Rattle.rules.specs.Events.{handle, linked, refuse, refused, taken}
 use Rattle.rules.specs.Pair.{acknowledged, halted, isFailed, noticed, received, setupOf}
 use Rattle.rules.specs.PairSlots.{laid, outcome, seen, usedMessage, zeroMessage}
@@ -26,7 +24,7 @@ use Rattle.rules.specs.declared.Shown.the-variants.{Nothing}
 use Rattle.slots.specs.Slots.{entries, padded, pushed}
 
 -- the code's one less, and the rule's
-pub one-less : (n : ℕ) → n - 1 ≡ pred n
+one-less : (n : ℕ) → n - 1 ≡ pred n
 one-less zero = refl
 one-less (suc n) = omega arith
 
@@ -42,41 +40,39 @@ module _ (s : Pair) where
 
   pub link-none : length flying ≡ 0 → outcome s (refused MustWait) ≡ does [] s Link
   unfolding handle linked seen
-  link-none n = does-refused [] s Link MustWait (none flying n)
+  link-none n = does-refused [] s Link MustWait (waits flying n)
     where
-      none : (ms : List Message) → length ms ≡ 0 → linked (seen s) ms ≡ refused MustWait
-      none [] h = refl
-      none (m ∷ ms) h = absurd (omega arith)
+      waits : (ms : List Message) → length ms ≡ 0 → linked (seen s) ms ≡ refused MustWait
+      waits [] h = refl
+      waits (m ∷ ms) h = absurd (omega arith)
 
   -- a message in flight: the inbox decides
   module _ (n : length flying ≡ 0 → ⊥) where
-    -- the pair that is left, without its free slots; and in memory
+    -- the pair that is left, without its free slots; and in memory, with these slots on the link and in the inbox
     abbrev linkNext : Pair
     linkNext = received (seen s) (oldest flying) (drop 1 flying)
 
-    abbrev linkLaid : Pair
-    linkLaid = record { p = s .p; phase = s .phase; b = s .b; role = s .role; detected = s .detected; limit = s .limit; count = s .count; link = padded 58 zeroMessage (drop 1 flying); acks = s .acks + 1; inbox = pushed usedMessage (s .inbox) (oldest flying) }
+    abbrev linkLaid : List Message → List Message → Pair
+    linkLaid ms ns = record { p = s .p; phase = s .phase; b = s .b; role = s .role; detected = s .detected; limit = s .limit; count = s .count; link = ms; acks = s .acks + 1; inbox = ns }
 
     in-flight : handle (setupOf [] s) (seen s) Link ≡ refuse (leb 128 (length arrived)) InboxFull (taken linkNext Nothing)
     unfolding handle linked oldest seen
-    in-flight = some flying n
+    in-flight = moves flying n
       where
-        some : (ms : List Message) → (length ms ≡ 0 → ⊥) → linked (seen s) ms ≡ refuse (leb 128 (length arrived)) InboxFull (taken (received (seen s) (oldest ms) (drop 1 ms)) Nothing)
-        some [] h = absurd (h refl)
-        some (m ∷ ms) h = refl
+        moves : (ms : List Message) → (length ms ≡ 0 → ⊥) → linked (seen s) ms ≡ refuse (leb 128 (length arrived)) InboxFull (taken (received (seen s) (oldest ms) (drop 1 ms)) Nothing)
+        moves [] h = absurd (h refl)
+        moves (m ∷ ms) h = refl
 
     pub link-full : 128 ≤ length arrived → outcome s (refused InboxFull) ≡ does [] s Link
     unfolding refuse
     link-full f = does-refused [] s Link InboxFull (in-flight ∙ rw (le-leb 128 (length arrived) f))
 
-    pub link-taken : Tidy s → length arrived < 128 → done linkLaid Nothing ≡ does [] s Link
+    pub link-taken : Tidy s → length arrived < 128 → (ms ns : List Message) → ms ≡ padded 58 zeroMessage (drop 1 flying) → ns ≡ pushed usedMessage (s .inbox) (oldest flying) → done (linkLaid ms ns) Nothing ≡ does [] s Link
     unfolding refuse laid received seen
-    link-taken t f = does-taken [] s Link linkNext Nothing linkLaid (in-flight ∙ rw (lt-leb 128 (length arrived) f)) goes
-      where
-        goes : linkLaid ≡ laid linkNext
-        goes =
-            let more = inbox-more s t (oldest flying) f in
-            λ i. record { p = p-again s t i; phase = s .phase; b = b-again s t i; role = s .role; detected = s .detected; limit = s .limit; count = s .count; link = padded 58 zeroMessage (drop 1 flying); acks = add-one (s .acks) i; inbox = more i }
+    link-taken t f ms ns d e =
+        let more = e ∙ inbox-more s t (oldest flying) f in
+        does-taken [] s Link linkNext Nothing (linkLaid ms ns) (in-flight ∙ rw (lt-leb 128 (length arrived) f))
+        (λ i. record { p = p-again s t i; phase = s .phase; b = b-again s t i; role = s .role; detected = s .detected; limit = s .limit; count = s .count; link = d i; acks = add-one (s .acks) i; inbox = more i })
 
   -- "At most 58 messages are unacknowledged": one more acknowledgement fits
   pub few-acks : Tidy s → s .acks ≤ 58
@@ -96,9 +92,15 @@ module _ (s : Pair) where
   unfolding handle refuse seen
   ack-none f n = does-refused [] s Ack MustWait (rw (f, eq-eqb (s .acks) 0 n))
 
-  pub ack-taken : Tidy s → isFailed (s .phase) ≡ false → (s .acks ≡ 0 → ⊥) → done (acknowledged s) Nothing ≡ does [] s Ack
+  -- the pair in memory with this many acknowledgements in flight
+  abbrev ackLaid : ℕ → Pair
+  ackLaid k = record { p = s .p; phase = s .phase; b = s .b; role = s .role; detected = s .detected; limit = s .limit; count = s .count; link = s .link; acks = k; inbox = s .inbox }
+
+  pub ack-taken : Tidy s → isFailed (s .phase) ≡ false → (s .acks ≡ 0 → ⊥) → done (ackLaid (s .acks - 1)) Nothing ≡ does [] s Ack
   unfolding handle refuse seen laid acknowledged
-  ack-taken t f n = does-taken [] s Ack (acknowledged (seen s)) Nothing (acknowledged s) (rw (f, ne-eqb (s .acks) 0 n)) (ap acknowledged (t .again))
+  ack-taken t f n =
+      ap (λ (k : ℕ). done (ackLaid k) Nothing) (one-less (s .acks))
+      ∙ does-taken [] s Ack (acknowledged (seen s)) Nothing (acknowledged s) (rw (f, ne-eqb (s .acks) 0 n)) (ap acknowledged (t .again))
 
   -- ---- FAIL
 

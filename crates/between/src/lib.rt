@@ -9,46 +9,50 @@ use rules::Phase;
 use rules::Refusal;
 use rules::Shown;
 
-// LINK: "oldest message moves to B's inbox (128), acknowledgement sets out" (P4); "none in flight 4; inbox full 6".
+// LINK: "oldest message moves to B's inbox (128), acknowledgement sets out (P4)". Refused: "none in flight 4; inbox full 6".
 pub fn link(pair: Pair) -> Outcome
     requires { ⌜ Tidy pair ⌝ }
     ensures { λ r. ⌜ r ≡ does [] pair Link ⌝ }
 {
     let sent = pair.link;
-    if mail::link::count(sent) == 0 {
+    let inbox = pair.inbox;
+    let in_flight = mail::link::count(sent);
+    let received = mail::inbox::count(inbox);
+    if in_flight == 0 {
         return pair::refused(pair, Refusal::MustWait);
     }
-    let inbox = pair.inbox;
-    if 128 <= mail::inbox::count(inbox) {
+    if 128 <= received {
         return pair::refused(pair, Refusal::InboxFull);
     }
     let left = mail::link::without_oldest(sent);
     let more = mail::inbox::receive(inbox, mail::link::oldest(sent));
     let mut next = pair;
     next.link = left;
+    // It fits: at most 58 messages are unacknowledged.
     next.acks = pair.acks + 1;
     next.inbox = more;
     pair::taken(next, Shown::Nothing)
 }
 
-// ACK: "P receives one acknowledgement"; "failed 2; none in flight 4".
+// ACK: "P receives one acknowledgement". Refused: "failed 2; none in flight 4".
 pub fn ack(pair: Pair) -> Outcome
     requires { ⌜ Tidy pair ⌝ }
     ensures { λ r. ⌜ r ≡ does [] pair Ack ⌝ }
 {
     let phase = pair.phase;
+    let acks = pair.acks;
     if pair::is_failed(phase) {
         return pair::refused(pair, Refusal::Dead);
     }
-    if pair.acks == 0 {
+    if acks == 0 {
         return pair::refused(pair, Refusal::MustWait);
     }
     let mut next = pair;
-    next.acks = pair.acks - 1;
+    next.acks = acks - 1;
     pair::taken(next, Shown::Nothing)
 }
 
-// FAIL: "P halts for good, clock sent becomes 0": the clock sent is kept in the phase, while P waits. "failed 2".
+// FAIL: "P halts for good, clock sent becomes 0": only a phase that waits keeps a clock. Refused: "failed 2".
 pub fn fail(pair: Pair) -> Outcome
     requires { ⌜ Tidy pair ⌝ }
     ensures { λ r. ⌜ r ≡ does [] pair Fail ⌝ }
@@ -78,17 +82,18 @@ pub fn fail(pair: Pair) -> Outcome
     pair::taken(next, Shown::Nothing)
 }
 
-// DETECT: "B learns of it"; "not failed, or detected 3; message in flight 4".
+// DETECT: "B learns of it". Refused: "not failed, or detected 3; message in flight 4".
 pub fn detect(pair: Pair) -> Outcome
     requires { ⌜ Tidy pair ⌝ }
     ensures { λ r. ⌜ r ≡ does [] pair Detect ⌝ }
 {
     let phase = pair.phase;
+    let sent = pair.link;
+    let in_flight = mail::link::count(sent);
     if !pair::is_failed(phase) | pair.detected {
         return pair::refused(pair, Refusal::OutOfTurn);
     }
-    let sent = pair.link;
-    if mail::link::count(sent) != 0 {
+    if in_flight != 0 {
         return pair::refused(pair, Refusal::MustWait);
     }
     let mut next = pair;

@@ -21,7 +21,7 @@ use Rattle.rules.specs.Events.{Verdict, ended, handle, inFront, malformed, numb
 use Rattle.rules.specs.History.{History}
 use Rattle.rules.specs.Instruction.{complete, next}
 use Rattle.rules.specs.Lone.{LoneStep}
-use Rattle.rules.specs.Messages.{first, hasEnd, ofEpoch, vals}
+use Rattle.rules.specs.Messages.{hasEnd, ofEpoch}
 use Rattle.rules.specs.Pair.{idle, isFollowing, nextEpoch, onB, ranOn, setupOf}
 use Rattle.rules.specs.PairSlots.{answerNumber, laid, outcome, soundPair, stored}
 use Rattle.rules.specs.Program.{Setup, exec, good, instr, under}
@@ -100,20 +100,20 @@ module _ (code : List ℕ) (l : ℕ) (g : good (under code l) ≡ true) where
 
   -- ---- a BSTEP is taken where B may run, and brings it nearer
 
-  bstep-taken : (s : Pair) (v : ℕ) → Nearing s → idle s || complete (s .limit) (s .b .guest) ≡ false → (o : Shown) × (handle (setupOf code s) s (BStep v) ≡ taken (afterB (setupOf code s) s v) o)
+  bstep-taken : (s : Pair) (v : ℕ) → Nearing s → idle s || complete (s .limit) (s .b .guest) ≡ false → (c : ℕ) × (o : Shown) × (handle (setupOf code s) s (BStep v) ≡ taken (afterB (setupOf code s) s c) o)
   unfolding handle afterB setupOf
   bstep-taken s v n q =
-      (_, goes-on _ OutOfTurn _ q ∙ goes-on _ BadProgram _ (rw (n .setup) (good-setup (under code l) g .runs (s .b .guest) (subst (λ (T : Setup). s .b .guest .pc < T .count) (n .setup) (n .whole .second .inside)))))
+      (_, _, goes-on _ OutOfTurn _ q ∙ goes-on _ BadProgram _ (rw (n .setup) (good-setup (under code l) g .runs (s .b .guest) (subst (λ (T : Setup). s .b .guest .pc < T .count) (n .setup) (n .whole .second .inside)))))
 
-  bstep-nearing : (s : Pair) (v : ℕ) → Nearing s → idle s || complete (s .limit) (s .b .guest) ≡ false → Nearing (afterB (setupOf code s) s v)
+  bstep-nearing : (s : Pair) (c : ℕ) → Nearing s → idle s || complete (s .limit) (s .b .guest) ≡ false → Nearing (afterB (setupOf code s) s c)
   unfolding afterB onB ranOn setupOf
-  bstep-nearing s v n q =
-      record { role = n .role; here = hasEnd-unread (setupOf code s) (nextEpoch (s .b .epoch)) (s .b .epoch) (s .b .guest) (s .inbox) ∙ n .here; more = n .more; setup = n .setup; whole = whole-bstep code s (n .whole) v q }
+  bstep-nearing s c n q =
+      record { role = n .role; here = hasEnd-unread (setupOf code s) (nextEpoch (s .b .epoch)) (s .b .epoch) (s .b .guest) (s .inbox) ∙ n .here; more = n .more; setup = n .setup; whole = whole-bstep code s (n .whole) c q }
 
   -- one more instruction is done
-  bstep-done : (s : Pair) (v : ℕ) → (afterB (setupOf code s) s v) .b .guest .done ≡ suc (s .b .guest .done)
+  bstep-done : (s : Pair) (c : ℕ) → (afterB (setupOf code s) s c) .b .guest .done ≡ suc (s .b .guest .done)
   unfolding afterB onB ranOn exec
-  bstep-done s v = effect (instr (setupOf code s) (s .b .guest)) (s .b .guest) (next ((setupOf code s) .count) (s .b .guest)) (first (vals (s .b .epoch) (s .inbox)) v) .done
+  bstep-done s c = effect (instr (setupOf code s) (s .b .guest)) (s .b .guest) (next ((setupOf code s) .count) (s .b .guest)) c .done
 
   -- ---- so it comes to the end
 
@@ -144,10 +144,10 @@ module _ (code : List ℕ) (l : ℕ) (g : good (under code l) ≡ true) where
       by-cases (idle s || complete (s .limit) (s .b .guest)) (λ q. at-once s (bytes ∷ steps) last b n (or-true (idle s) _ q))
       (λ q.
       let v : ℕ = a .0 .0 in
-      let t : Pair = afterB (setupOf code s) s v in
-      let r = comes-to-end t steps last (a .1) b (bstep-nearing s v n q) (let d = bstep-done s v in omega arith) in
       let o = bstep-taken s v n q in
-      let k = stepped-taken code s bytes (BStep v) t (o .0) (n .whole) (four s n) (a .0 .1) refl (o .1) in
+      let t : Pair = afterB (setupOf code s) s (o .0) in
+      let r = comes-to-end t steps last (a .1) b (bstep-nearing s (o .0) n q) (let d = bstep-done s (o .0) in omega arith) in
+      let k = stepped-taken code s bytes (BStep v) t (o .1) (n .whole) (four s n) (a .0 .1) refl (o .2) in
       (suc (r .0), suc-le-suc (r .1), (k .0, subst (λ (x : Pair). Takes code x (take (r .0) steps ++ (last ∷ []))) (sym (k .1)) (r .2))))
 
 -- ---- a full inbox holds the end that B waits for

@@ -7,13 +7,13 @@ use borrow.Author.Tests.{eqb-false, ne-eqb, not-true}
 use lib.Dec.{eqb}
 use native.Mathlib.Omega.{arith}
 use Rattle.rules.proofs.Ascending.{Ascends, ascends-above, ascends-keep}
-use Rattle.rules.proofs.Boundary.{boundary-table, delivers-table, failover-boundary}
+use Rattle.rules.proofs.Boundary.{boundary-table, delivers-table}
 use Rattle.rules.proofs.Choices.{clash, or-right, pick-case}
 use Rattle.rules.proofs.Effect.{Deed, begun, calm, effect}
 use Rattle.rules.proofs.Lists.{All, all-append, all-keep, all-map, folded-append}
 use Rattle.rules.proofs.Operations.{all-self, listed-cons, listed-last, listed-more, listed-nil, ops-last, ops-uncertain, unlisted, unlisted-last}
 use Rattle.rules.proofs.Parts.{all-each, all-zip, keep-each}
-use Rattle.rules.specs.Boundary.{boundary, deliver, delivers, failover, otherOp, told, uncertain}
+use Rattle.rules.specs.Boundary.{boundary, deliver, delivers, failover, otherOp, restart, tellUncertain, timer, told, uncertain}
 use Rattle.rules.specs.Guest.{listed, opsOf}
 use Rattle.rules.specs.GuestSound.{says}
 use Rattle.rules.specs.History.{recorded}
@@ -84,7 +84,14 @@ delivers-off (i ∷ is) g =
 delivers-listed : (is : List Interrupt) (g : Guest) → All (λ n. listed n (g .table) ≡ true) ((delivers g is) .table)
 delivers-listed is g = delivers-table (All (λ (n : OpNo). listed n (g .table) ≡ true)) (all-keep (λ (n : OpNo). listed n (g .table) ≡ true)) g is (all-self (g .table))
 
--- after the failover boundary no operation is outstanding
+-- ---- the failover boundary (P8)
+
+-- the uncertain interrupts are delivered after the others
+failover-boundary : (is : List Interrupt) (c : ℕ) (g : Guest) → failover is c g ≡ boundary (is ++ map uncertain ((delivers g is) .table)) c g
+unfolding failover boundary tellUncertain
+failover-boundary is c g = ap (λ (h : Guest). restart (timer c h)) (sym (folded-append deliver g is (map uncertain ((delivers g is) .table))))
+
+-- after it no operation is outstanding
 failover-table : (is : List Interrupt) (c : ℕ) (g : Guest) → (failover is c g) .table ≡ []
 failover-table is c g =
     let us : List Interrupt = map uncertain ((delivers g is) .table) in

@@ -70,7 +70,7 @@ module _ (S : Setup) (past : List LoneStep) (h : History) (e : Ledger S h) (w : 
   -- ---- BSTEP
 
   stepped-to : ℕ → Shown → History
-  stepped-to v o = after (BStep v) h (taken (afterB S (h .pair) v) o)
+  stepped-to v o = after (BStep v) h (taken (afterB S (h .pair) (first (vals (h .pair .b .epoch) (h .pair .inbox)) v)) o)
 
   -- the link has no message of B's epoch, so that the clock and what is left are those of the inbox
   behind-step : (v : ℕ) → CoreOf S past h → Able S act (postOf h) → Trail S (move S act (postOf h)) (h .pair .p) (h .pair .phase) (h .enteredB) (h .enteredP) → CoreOf S past (stepped-to v Nothing)

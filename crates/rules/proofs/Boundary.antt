@@ -1,21 +1,16 @@
--- The boundary in its parts: what a delivery does to the table, and the failover boundary as a boundary with more interrupts.
+-- The boundary in its parts: what a delivery does to the table.
 use mathlib.Core.Bool.{Bool}
-use mathlib.Core.List.{List, [], _++_, _∷_, map}
-use mathlib.Core.Path.{_≡_, ap, refl, sym}
+use mathlib.Core.List.{List, [], _∷_}
+use mathlib.Core.Path.{_≡_, refl}
 use Prim.Native.Nat.{ℕ}
 use Rattle.slots.specs.Slots.{keep}
 use Rattle.rules.proofs.Choices.{pick-case}
-use Rattle.rules.proofs.Lists.{All, folded-append, folded-keeps}
-use Rattle.rules.specs.Boundary.{boundary, deliver, delivers, due, failover, otherOp, restart, rings, tellUncertain, timer, told, uncertain}
+use Rattle.rules.proofs.Lists.{All, folded-keeps}
+use Rattle.rules.specs.Boundary.{boundary, deliver, delivers, due, otherOp, restart, rings, timer, told}
 use Rattle.rules.specs.Guest.{listed}
 use Rattle.rules.specs.declared.Guest.{Guest}
 use Rattle.rules.specs.declared.Interrupt.{Interrupt}
 use Rattle.rules.specs.declared.OpNo.{OpNo}
-
--- the uncertain interrupts are delivered after the others
-pub failover-boundary : (is : List Interrupt) (c : ℕ) (g : Guest) → failover is c g ≡ boundary (is ++ map uncertain ((delivers g is) .table)) c g
-unfolding failover boundary tellUncertain
-failover-boundary is c g = ap (λ (h : Guest). restart (timer c h)) (sym (folded-append deliver g is (map uncertain ((delivers g is) .table))))
 
 -- what holds of a table, and of what is left of it when some leave, holds after each delivery
 module _ {κ} (P : List OpNo → Type κ) (kept : (t : OpNo → Bool) (l : List OpNo) → P l → P (keep t l)) where

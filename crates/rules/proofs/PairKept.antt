@@ -27,10 +27,10 @@ use Rattle.rules.specs.Events.{Verdict, ended, handle, inFront, malforme
 use Rattle.rules.specs.Guest.{listed, opsOf}
 use Rattle.rules.specs.GuestSound.{proper}
 use Rattle.rules.specs.Instruction.{complete, isTime, next, start}
-use Rattle.rules.specs.Messages.{dropEpoch, end, first, gather, hasEnd, int, intOf, interruptOf, ints, ofKind, only, place, tme, tmes, val, vals}
+use Rattle.rules.specs.Messages.{dropEpoch, end, first, gather, hasEnd, int, intOf, interruptOf, ints, ofKind, only, place, tme, val}
 use Rattle.rules.specs.Pair.{acknowledged, awaited, buffers, clockSent, enters, freshPair, halted, idle, isFailed, isFollowing, isPromoted, isWaiting, nextEpoch, noticed, onB, onP, ranOn, received, setupOf}
 use Rattle.rules.specs.PairKept.{PairKept}
-use Rattle.rules.specs.PairSlots.{apply, laid, seen, soundPair}
+use Rattle.rules.specs.PairSlots.{apply, seen, soundPair}
 use Rattle.rules.specs.Program.{Setup, atTime, exec, instr}
 use Rattle.rules.specs.Sound.{extra, sound, soundMessage, unacknowledged}
 use Rattle.rules.specs.declared.Card.{Card}
@@ -111,9 +111,9 @@ sends-length S c w = go (isTime (instr S (c .guest))) ∙ sym (effect (instr S (
     go true = omega arith
     go false = omega arith
 
--- B after an instruction
+-- B after an instruction with the clock reading c
 unfoldable pub afterB : Setup → Pair → ℕ → Pair
-afterB S s w = onB s (ranOn (s .b) ((exec S (s .b .guest) (first (vals (s .b .epoch) (s .inbox)) w)) .guest)) (s .role) (unread S (s .b .epoch) (s .b .guest) (s .inbox))
+afterB S s c = onB s (ranOn (s .b) ((exec S (s .b .guest) c) .guest)) (s .role) (unread S (s .b .epoch) (s .b .guest) (s .inbox))
 
 module _ (code : List ℕ) (s : Pair) (w : Whole s) where
   -- ---- a pair with another first card; with another second card; with other phase, flags, link and inbox
@@ -162,7 +162,7 @@ module _ (code : List ℕ) (s : Pair) (w : Whole s) where
         turns = record { entered = w .turns .entered; asleep = w .turns .asleep; ready = r; stopped = p; noticed = q; unbuffered = w .turns .unbuffered };
       }
 
-  -- ---- the events
+  -- ---- the events: which clock is read, which Ints are delivered and which role follows does not matter here
 
   Keeps : Verdict → Type 0
   Keeps = IfTaken (λ t o. Whole t)
@@ -252,11 +252,10 @@ module _ (code : List ℕ) (s : Pair) (w : Whole s) where
       rewired (s .phase) true (s .link) (s .acks) (s .inbox) (w .wires .onLink) (w .wires .inInbox) (w .wires .room) (w .wires .flight) (w .turns .ready)
       (λ _. not-false (isFailed (s .phase)) (or-false (not (isFailed (s .phase))) (s .detected) q .0)) (λ _. refl)
 
-  pub whole-bstep : (v : ℕ) → idle s || complete (s .limit) (s .b .guest) ≡ false → Whole (afterB (setupOf code s) s v)
+  pub whole-bstep : (c : ℕ) → idle s || complete (s .limit) (s .b .guest) ≡ false → Whole (afterB (setupOf code s) s c)
   unfolding afterB ranOn setupOf
-  whole-bstep v q =
+  whole-bstep c q =
       let a = or-false (idle s) (complete (s .limit) (s .b .guest)) q in
-      let c : ℕ = first (vals (s .b .epoch) (s .inbox)) v in
       on-second (ranOn (s .b) ((exec (setupOf code s) (s .b .guest) c) .guest)) (s .role) (unread (setupOf code s) (s .b .epoch) (s .b .guest) (s .inbox))
       (whole-exec (setupOf code s) (s .b .guest) c (a .1) (w .second)) (buffer-step (setupOf code s) (s .b) c (w .secondBuffer)) (part-unread (setupOf code s) (s .b .epoch) (s .b .guest) (s .inbox))
       (λ z. clash z (a .0)) (w .turns .noticed) (w .turns .unbuffered)
@@ -273,8 +272,8 @@ module _ (code : List ℕ) (s : Pair) (w : Whole s) where
       unless _ _ EpochsUsedUp _ λ _.
       go (s .role) refl
     where
-      proper-ints : All (λ i. proper i ≡ true) (ints (s .b .epoch) (s .inbox))
-      proper-ints = ints-proper (s .b .epoch) (s .inbox) (w .wires .inInbox)
+      proper-ints : (e : EpochNo) → All (λ i. proper i ≡ true) (ints e (s .inbox))
+      proper-ints e = ints-proper e (s .inbox) (w .wires .inInbox)
 
       over : (o : Role) → s .role ≡ o → isFollowing o ≡ false → s .detected ≡ true
       over o q n = w .turns .noticed (ap isFollowing q ∙ n)
@@ -284,11 +283,11 @@ module _ (code : List ℕ) (s : Pair) (w : Whole s) where
           unless _ _ MustWait _ λ n.
           entered _ _ (dropEpoch (s .b .epoch) (s .inbox))
           (pick-case (WholeGuest (s .count) (s .limit)) (idle s) (s .b .guest) _ (λ _. w .second)
-          (λ _. whole-boundary (s .count) (s .limit) (ints (s .b .epoch) (s .inbox)) (first (tmes (s .b .epoch) (s .inbox)) v) (s .b .guest) proper-ints (w .second)))
+          (λ _. whole-boundary (s .count) (s .limit) _ _ (s .b .guest) (proper-ints _) (w .second)))
           (part-dropEpoch (s .b .epoch) (s .inbox))
-          (pick-case (λ (o : Role). isFollowing o ≡ false → s .detected ≡ true) (hasEnd (nextEpoch (s .b .epoch)) (s .inbox)) Following Failover (λ _ z. clash refl z) (λ f _. nor-other (hasEnd (nextEpoch (s .b .epoch)) (s .inbox)) (s .detected) n f))
+          (pick-case (λ (o : Role). isFollowing o ≡ false → s .detected ≡ true) (hasEnd (nextEpoch (s .b .epoch)) (s .inbox)) Following _ (λ _ z. clash refl z) (λ f _. nor-other (hasEnd (nextEpoch (s .b .epoch)) (s .inbox)) (s .detected) n f))
       go Failover q =
-          entered _ Promoted (dropEpoch (s .b .epoch) (s .inbox)) (whole-failover (s .count) (s .limit) (ints (s .b .epoch) (s .inbox)) (first (tmes (s .b .epoch) (s .inbox)) v) (s .b .guest) proper-ints (w .second))
+          entered _ Promoted (dropEpoch (s .b .epoch) (s .inbox)) (whole-failover (s .count) (s .limit) _ _ (s .b .guest) (proper-ints _) (w .second))
           (part-dropEpoch (s .b .epoch) (s .inbox)) (λ _. over Failover q refl)
       go Promoted q =
           entered _ Promoted (s .inbox) (whole-boundary (s .count) (s .limit) (s .b .buffer) v (s .b .guest) (w .secondBuffer .proper) (w .second)) (part-self (s .inbox)) (λ _. over Promoted q refl)
@@ -311,7 +310,7 @@ module _ (code : List ℕ) (s : Pair) (w : Whole s) where
   whole-handle Ack m = whole-ack
   whole-handle Fail m = whole-fail
   whole-handle Detect m = whole-detect
-  whole-handle (BStep v) m = unless _ _ OutOfTurn _ λ q. unless _ _ BadProgram _ λ _. whole-bstep v q
+  whole-handle (BStep v) m = unless _ _ OutOfTurn _ λ q. unless _ _ BadProgram _ λ _. whole-bstep _ q
   whole-handle (BEnd v) m = whole-bend v
   whole-handle (BInt i) m = whole-bint i (not-false (proper i) m)
 
