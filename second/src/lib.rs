@@ -1,0 +1,28 @@
+//! The pair of document 01, written a second time from 01, READINGS and PROBE alone, so that its
+//! answers can be laid beside those of another program.
+//!
+//! The machine: `instruction`, `interrupt`, `guest`; `event`, `message`, `pair`; the events in
+//! `step`, `card_p`, `link`, `card_b`; `sound`. The stored forms: `image`, `runfile`. The
+//! programs: `bench`, `probe`, `text`, `generate`, `check`.
+
+pub mod bench;
+pub mod bytes;
+pub mod card_b;
+pub mod card_p;
+pub mod check;
+pub mod event;
+pub mod generate;
+pub mod guest;
+pub mod image;
+pub mod instruction;
+pub mod interrupt;
+pub mod link;
+pub mod message;
+pub mod numbers;
+pub mod pair;
+pub mod probe;
+pub mod refusal;
+pub mod runfile;
+pub mod sound;
+pub mod step;
+pub mod text;
