@@ -1,0 +1,4 @@
+pub mod Lawful
+pub mod Stretch
+pub mod Loops
+pub mod Lent

@@ -1,0 +1,4 @@
+pub mod Fields
+pub mod Image
+pub mod Sized
+pub mod Fine
