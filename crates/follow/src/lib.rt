@@ -54,7 +54,7 @@ fn shown_by(role: Role, shown: Shown) -> Shown
 }
 
 // A well formed instruction on B.
-fn run(pair: Pair, program: &[u8], i: Instr, word: u32) -> Outcome
+fn b_run(pair: Pair, program: &[u8], i: Instr, word: u32) -> Outcome
     requires { ⌜ Tidy pair × (idle pair || complete (pair .limit) (pair .b .guest) ≡ false) × (fetch (now program) (pair .count) (pair .b .guest .pc) ≡ Good i) ⌝ }
     ensures { λ r. ⌜ r ≡ does (now (program .entry)) pair (BStep word) ⌝ }
 {
@@ -69,9 +69,9 @@ fn run(pair: Pair, program: &[u8], i: Instr, word: u32) -> Outcome
     let role = pair.role;
     let entry = ran.shown;
     let shown = shown_by(role, entry);
-    let h = ran.guest;
+    let guest = ran.guest;
     let mut card = b;
-    card.guest = h;
+    card.guest = guest;
     let mut next = pair;
     next.b = card;
     next.inbox = rest;
@@ -91,7 +91,7 @@ pub fn b_step(pair: Pair, program: &[u8], word: u32) -> Outcome
     let pc = g.pc;
     let decoded = program::fetch(program, pair.count, pc);
     match decoded {
-        Decoded::Good(i) => run(pair, program, i, word),
+        Decoded::Good(i) => b_run(pair, program, i, word),
         Decoded::Bad => pair::refused(pair, Refusal::BadProgram),
     }
 }
@@ -162,7 +162,7 @@ fn leave(pair: Pair, guest: Guest, role: Role) -> Pair
     enter(pair, guest, role, rest)
 }
 
-// BEND while following.
+// BEND while following: it waits where neither case applies.
 fn end_following(pair: Pair, word: u32) -> Outcome
     requires { ⌜ Tidy pair × (pair .b .epoch .0 < 65535) ⌝ }
     ensures { λ r. ⌜ r ≡ outcomeOf pair (stored (ended (seen pair) word Following)) ⌝ }
@@ -218,11 +218,12 @@ pub fn b_end(pair: Pair, word: u32) -> Outcome
     let b = pair.b;
     let g = b.guest;
     let idle = b.epoch.0 == 0;
+    let used_up = b.epoch.0 == 65535;
     let complete = guest::complete(g, pair.limit);
     if !idle & !complete {
         return pair::refused(pair, Refusal::OutOfTurn);
     }
-    if b.epoch.0 == 65535 {
+    if used_up {
         return pair::refused(pair, Refusal::EpochsUsedUp);
     }
     let role = pair.role;

@@ -2,6 +2,7 @@
 use mathlib.Core.Path.{_≡_, sym, _∙_}
 use Rattle.pair.proofs.sound.Reads as sound
 use Rattle.pair.proofs.set_up.Reads as set-up
+use Rattle.pair.proofs.nothing.Reads as nothing
 use Rattle.pair.proofs.refused.Reads as refused
 use Rattle.pair.proofs.taken.Reads as taken
 use Rattle.pair.proofs.is_failed.Reads as is-failed
@@ -32,3 +33,6 @@ is-following-exact κs a r r′ s s′ p q = p ∙ sym q
 
 pub is-promoted-exact : (κs a r r′ s s′ : _) → is-promoted.Post κs a r s → is-promoted.Post κs a r′ s′ → r ≡ r′
 is-promoted-exact κs a r r′ s s′ p q = p ∙ sym q
+
+pub nothing-exact : (κs a r r′ s s′ : _) → nothing.Post κs a r s → nothing.Post κs a r′ s′ → r ≡ r′
+nothing-exact κs a r r′ s s′ p q = p ∙ sym q

@@ -20,8 +20,8 @@ module _ (code : List ℕ) (l : ℕ) where
   unfolding made setUp good under refuse stored outcome freshPair
   made-good h = rw h
 
-  pub made-bad : leb 1 l && leb l 4096 && goodProgram code (length code / 4) ≡ false → outcome (laid (blank 0 0 0)) (refused BadProgram) ≡ made (under code l)
-  unfolding made setUp good under refuse stored outcome zeroPair
+  pub made-bad : leb 1 l && leb l 4096 && goodProgram code (length code / 4) ≡ false → outcome zeroPair (refused BadProgram) ≡ made (under code l)
+  unfolding made setUp good under refuse stored outcome
   made-bad h = rw h
 
   -- a good program's N is small

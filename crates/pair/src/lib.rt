@@ -15,7 +15,7 @@ ghost use Rattle.pair.specs.Sound.{soundCard, allTabled};
 ghost use Rattle.rules.specs.Guest.{fresh};
 ghost use Rattle.rules.specs.GuestSlots.{laidGuest};
 ghost use Rattle.rules.specs.Events.{refused as refusedOf};
-ghost use Rattle.rules.specs.PairSlots.{outcome as outcomeOf, made};
+ghost use Rattle.rules.specs.PairSlots.{outcome as outcomeOf, made, zeroPair};
 ghost use Rattle.rules.specs.Program.{under};
 ghost use Rattle.pair.specs.Made.{done, blank as blankOf};
 use rules::Answer;
@@ -392,6 +392,13 @@ fn blank(epoch: u16, n: u16, l: u16) -> Pair
     }
 }
 
+// "Where nothing is made, zeros .. stand in its place"
+pub fn nothing() -> Pair
+    ensures { λ r. ⌜ r ≡ zeroPair ⌝ }
+{
+    blank(0, 0, 0)
+}
+
 // Set-up: a program and L to a fresh pair, or 8 and zeros in its place.
 pub fn set_up(program: &[u8], l: u16) -> Outcome
     ensures { λ r. ⌜ r ≡ made (under (now (program .entry)) l) ⌝ }
@@ -402,5 +409,5 @@ pub fn set_up(program: &[u8], l: u16) -> Outcome
         let count = n as u16;
         return taken(blank(1, count, l), Shown::Nothing);
     }
-    refused(blank(0, 0, 0), Refusal::BadProgram)
+    refused(nothing(), Refusal::BadProgram)
 }

@@ -11,7 +11,7 @@ returns : tie.Need-returns
 returns c = rw (c .taken .ensures, c .before .blank .ensures) (made-good (c .before .before .before .before .before .args .program .now) (c .before .before .before .before .before .args .l) (rw (c .before .before .before .good-program .ensures) at (c .before .before .if1 .taken)))
 
 returns-2 : tie.Need-returns-2
-returns-2 c = rw (c .refused .ensures, c .before .blank2 .ensures) (made-bad (c .before .before .before .before .before .args .program .now) (c .before .before .before .before .before .args .l) (rw (c .before .before .before .good-program .ensures) at (c .before .before .if1 .left)))
+returns-2 c = rw (c .refused .ensures, c .before .nothing .ensures) (made-bad (c .before .before .before .before .before .args .program .now) (c .before .before .before .before .before .args .l) (rw (c .before .before .before .good-program .ensures) at (c .before .before .if1 .left)))
 
 pub set-up-spec : {M : Type 1} → statement M
 set-up-spec = tie.close (tie.spec (λ c κs. search needs) cast-count (λ c κs. search needs) (λ c κs. search needs) returns (λ c κs. search needs) (λ c κs. search needs) returns-2)

@@ -1,0 +1,5 @@
+pub mod Stores
+pub mod Wiping
+pub mod Promises
+pub mod Cases
+pub mod Exact
