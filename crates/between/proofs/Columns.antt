@@ -10,7 +10,7 @@ use native.Mathlib.Numerals.{add-one}
 use native.Mathlib.Omega.{arith}
 use Rattle.mail.specs.Mail.{oldest}
 use Rattle.pair.proofs.Goes.{b-again, does-refused, does-taken, inbox-more, p-again}
-use Rattle.pair.specs.Made.{done}
+use Rattle.outcomes.specs.Made.{done}
 use Rattle.pair.specs.Tidy.{Tidy, does}
 use Rattle.rules.proofs.PairWhole.{at-most-58, buffered, whole}
 use Rattle.rules.specs.Events.{handle, linked, refuse, refused, taken}

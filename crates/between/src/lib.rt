@@ -19,10 +19,10 @@ pub fn link(pair: Pair) -> Outcome
     let in_flight = mail::link::count(sent);
     let received = mail::inbox::count(inbox);
     if in_flight == 0 {
-        return pair::refused(pair, Refusal::MustWait);
+        return outcomes::refused(pair, Refusal::MustWait);
     }
     if 128 <= received {
-        return pair::refused(pair, Refusal::InboxFull);
+        return outcomes::refused(pair, Refusal::InboxFull);
     }
     let left = mail::link::without_oldest(sent);
     let more = mail::inbox::receive(inbox, mail::link::oldest(sent));
@@ -31,7 +31,7 @@ pub fn link(pair: Pair) -> Outcome
     // It fits: at most 58 messages are unacknowledged.
     next.acks = pair.acks + 1;
     next.inbox = more;
-    pair::taken(next, Shown::Nothing)
+    outcomes::taken(next, Shown::Nothing)
 }
 
 // ACK: "P receives one acknowledgement". Refused: "failed 2; none in flight 4".
@@ -41,15 +41,15 @@ pub fn ack(pair: Pair) -> Outcome
 {
     let phase = pair.phase;
     let acks = pair.acks;
-    if pair::is_failed(phase) {
-        return pair::refused(pair, Refusal::Dead);
+    if phases::is_failed(phase) {
+        return outcomes::refused(pair, Refusal::Dead);
     }
     if acks == 0 {
-        return pair::refused(pair, Refusal::MustWait);
+        return outcomes::refused(pair, Refusal::MustWait);
     }
     let mut next = pair;
     next.acks = acks - 1;
-    pair::taken(next, Shown::Nothing)
+    outcomes::taken(next, Shown::Nothing)
 }
 
 // FAIL: "P halts for good, clock sent becomes 0": only a phase that waits keeps a clock. Refused: "failed 2".
@@ -58,8 +58,8 @@ pub fn fail(pair: Pair) -> Outcome
     ensures { λ r. ⌜ r ≡ does [] pair Fail ⌝ }
 {
     let was = pair.phase;
-    if pair::is_failed(was) {
-        return pair::refused(pair, Refusal::Dead);
+    if phases::is_failed(was) {
+        return outcomes::refused(pair, Refusal::Dead);
     }
     let p = pair.p;
     let phase = Phase::Failed;
@@ -79,7 +79,7 @@ pub fn fail(pair: Pair) -> Outcome
         acks: pair.acks,
         inbox,
     };
-    pair::taken(next, Shown::Nothing)
+    outcomes::taken(next, Shown::Nothing)
 }
 
 // DETECT: "B learns of it". Refused: "not failed, or detected 3; message in flight 4".
@@ -90,13 +90,13 @@ pub fn detect(pair: Pair) -> Outcome
     let phase = pair.phase;
     let sent = pair.link;
     let in_flight = mail::link::count(sent);
-    if !pair::is_failed(phase) | pair.detected {
-        return pair::refused(pair, Refusal::OutOfTurn);
+    if !phases::is_failed(phase) | pair.detected {
+        return outcomes::refused(pair, Refusal::OutOfTurn);
     }
     if in_flight != 0 {
-        return pair::refused(pair, Refusal::MustWait);
+        return outcomes::refused(pair, Refusal::MustWait);
     }
     let mut next = pair;
     next.detected = true;
-    pair::taken(next, Shown::Nothing)
+    outcomes::taken(next, Shown::Nothing)
 }

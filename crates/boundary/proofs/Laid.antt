@@ -30,8 +30,8 @@ laid-deliver g f i =
     ∙ go (listed (i .op) (g .table)) refl
   where
     go : (b : Bool) → listed (i .op) (g .table) ≡ b
-      → pick b (withQueue (withTable (laidGuest g) (padded 16 zeroOp (keep (otherOp (i .op)) (g .table)))) (pushed usedInterrupt (padded 17 zeroInterrupt (g .queue)) i)) (laidGuest g)
-      ≡ laidGuest (pick b (told g i) g)
+        → pick b (withQueue (withTable (laidGuest g) (padded 16 zeroOp (keep (otherOp (i .op)) (g .table)))) (pushed usedInterrupt (padded 17 zeroInterrupt (g .queue)) i)) (laidGuest g)
+        ≡ laidGuest (pick b (told g i) g)
     go true e = ap (λ (q : List Interrupt). withQueue (withTable (laidGuest g) (padded 16 zeroOp (keep (otherOp (i .op)) (g .table)))) q) (pushed-padded usedInterrupt zeroInterrupt refl 17 (g .queue) i (f .queue) (room-delivery g f (i .op) e))
     go false e = refl
 
@@ -59,7 +59,7 @@ laid-timer c g f =
     ∙ go (due c g) refl
   where
     go : (b : Bool) → due c g ≡ b
-      → pick b (withQueue (withTimer (laidGuest g) false 0) (pushed usedInterrupt (padded 17 zeroInterrupt (g .queue)) (timerInterrupt c))) (laidGuest g) ≡ laidGuest (pick b (rings c g) g)
+        → pick b (withQueue (withTimer (laidGuest g) false 0) (pushed usedInterrupt (padded 17 zeroInterrupt (g .queue)) (timerInterrupt c))) (laidGuest g) ≡ laidGuest (pick b (rings c g) g)
     go true e = ap (λ (q : List Interrupt). withQueue (withTimer (laidGuest g) false 0) q) (pushed-padded usedInterrupt zeroInterrupt refl 17 (g .queue) (timerInterrupt c) (f .queue) (room-timer g f (untaken c g e)))
     go false e = refl
 

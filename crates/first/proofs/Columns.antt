@@ -11,7 +11,7 @@ use Rattle.boundary.specs.InSlots.{boundaryIn}
 use Rattle.guest.proofs.Laid.{laid-instruction}
 use Rattle.guest.specs.InSlots.{instructionIn}
 use Rattle.pair.proofs.Goes.{buffer-again, buffer-more, does-refused, does-taken, goes-p, guest-again, link-more, link-same, next-fits, p-again, p-fits, room-link}
-use Rattle.pair.specs.Made.{done}
+use Rattle.outcomes.specs.Made.{done}
 use Rattle.pair.specs.Tidy.{Tidy, does}
 use Rattle.rules.proofs.PairSlots.{Fits}
 use Rattle.rules.specs.Boundary.{boundary}
@@ -51,7 +51,7 @@ pairP s c f k = record { p = c; phase = f; b = s .b; role = s .role; detected = 
 
 module _ (code : List ℕ) (s : Pair) (t : Tidy s) (ev : Event) (formed : malformed ev ≡ false) (c : Card) (f : Phase) (o : Shown) where
   pub taken-sending : (m : Message) → handle (setupOf code s) (seen s) ev ≡ taken (onP (seen s) c f (m ∷ [])) o → (c′ : Card) → (Fits (onP (seen s) c f (m ∷ [])) → c′ ≡ laidCard c)
-    → done (pairP s c′ f (pushed usedMessage (s .link) m)) o ≡ does code s ev
+      → done (pairP s c′ f (pushed usedMessage (s .link) m)) o ≡ does code s ev
   unfolding onP seen
   taken-sending m e c′ card =
       let fits = next-fits s t code ev (onP (seen s) c f (m ∷ [])) o formed e in
@@ -87,7 +87,7 @@ module _ (code : List ℕ) (s : Pair) (alive : isFailed (s .phase) ≡ false) wh
   pint-unknown i a = does-refused code s (PInt i) UnknownOperation (rw (alive, a))
 
   pint-verdict : (i : Interrupt) → awaited (seenCard (s .p)) (i .op) ≡ true
-    → handle (setupOf code s) (seen s) (PInt i) ≡ taken (onP (seen s) (buffers (seenCard (s .p)) i) (s .phase) (int (s .p .epoch) i ∷ [])) Nothing
+      → handle (setupOf code s) (seen s) (PInt i) ≡ taken (onP (seen s) (buffers (seenCard (s .p)) i) (s .phase) (int (s .p .epoch) i ∷ [])) Nothing
   unfolding handle refuse seen seenCard
   pint-verdict i a = rw (alive, a)
 
@@ -96,7 +96,7 @@ module _ (code : List ℕ) (s : Pair) (alive : isFailed (s .phase) ≡ false) wh
   pint-formed i p = rw p
 
   pint-card : Tidy s → (i : Interrupt) → Fits (onP (seen s) (buffers (seenCard (s .p)) i) (s .phase) (int (s .p .epoch) i ∷ []))
-    → record { guest = s .p .guest; epoch = s .p .epoch; buffer = pushed usedInterrupt (s .p .buffer) i } ≡ laidCard (buffers (seenCard (s .p)) i)
+      → record { guest = s .p .guest; epoch = s .p .epoch; buffer = pushed usedInterrupt (s .p .buffer) i } ≡ laidCard (buffers (seenCard (s .p)) i)
   unfolding onP laidCard buffers seenCard
   pint-card t i fits =
       let a = fits .p .room in
@@ -105,8 +105,8 @@ module _ (code : List ℕ) (s : Pair) (alive : isFailed (s .phase) ≡ false) wh
       λ k. record { guest = guest-again (s .p) (p-again s t) k; epoch = s .p .epoch; buffer = buffer-more (s .p) (p-again s t) i h k }
 
   pub pint-taken : Tidy s → (i : Interrupt) → proper i ≡ true → awaited (seenCard (s .p)) (i .op) ≡ true
-    → done (pairP s (record { guest = s .p .guest; epoch = s .p .epoch; buffer = pushed usedInterrupt (s .p .buffer) i }) (s .phase) (pushed usedMessage (s .link) (int (s .p .epoch) i))) Nothing
-    ≡ does code s (PInt i)
+      → done (pairP s (record { guest = s .p .guest; epoch = s .p .epoch; buffer = pushed usedInterrupt (s .p .buffer) i }) (s .phase) (pushed usedMessage (s .link) (int (s .p .epoch) i))) Nothing
+      ≡ does code s (PInt i)
   pint-taken t i p a = taken-sending code s t (PInt i) (pint-formed i p) (buffers (seenCard (s .p)) i) (s .phase) Nothing (int (s .p .epoch) i) (pint-verdict i a) _ (pint-card t i)
 
   -- ---- PTIME
@@ -116,7 +116,7 @@ module _ (code : List ℕ) (s : Pair) (alive : isFailed (s .phase) ≡ false) wh
   ptime-early w a = does-refused code s (PTime w) OutOfTurn (rw (alive, a))
 
   ptime-verdict : (w : ℕ) → not (complete (s .limit) (s .p .guest)) || isWaiting (s .phase) ≡ false
-    → handle (setupOf code s) (seen s) (PTime w) ≡ taken (onP (seen s) (seenCard (s .p)) (Waiting w) (tme (s .p .epoch) w ∷ [])) Nothing
+      → handle (setupOf code s) (seen s) (PTime w) ≡ taken (onP (seen s) (seenCard (s .p)) (Waiting w) (tme (s .p .epoch) w ∷ [])) Nothing
   unfolding handle refuse seen seenCard seenGuest setupOf complete
   ptime-verdict w a = rw (alive, a)
 
@@ -125,7 +125,7 @@ module _ (code : List ℕ) (s : Pair) (alive : isFailed (s .phase) ≡ false) wh
   ptime-formed w = refl
 
   pub ptime-taken : Tidy s → (w : ℕ) → not (complete (s .limit) (s .p .guest)) || isWaiting (s .phase) ≡ false
-    → done (pairP s (s .p) (Waiting w) (pushed usedMessage (s .link) (tme (s .p .epoch) w))) Nothing ≡ does code s (PTime w)
+      → done (pairP s (s .p) (Waiting w) (pushed usedMessage (s .link) (tme (s .p .epoch) w))) Nothing ≡ does code s (PTime w)
   ptime-taken t w a = taken-sending code s t (PTime w) (ptime-formed w) (seenCard (s .p)) (Waiting w) Nothing (tme (s .p .epoch) w) (ptime-verdict w a) (s .p) (λ _. p-again s t)
 
   -- ---- PEND
@@ -146,7 +146,7 @@ module _ (code : List ℕ) (s : Pair) (alive : isFailed (s .phase) ≡ false) wh
   ended = enters (seenCard (s .p)) (boundary (entries usedInterrupt (s .p .buffer)) (clockSent (s .phase)) (seenGuest (s .p .guest)))
 
   pend-verdict : isWaiting (s .phase) ≡ true → eqb (s .p .epoch .0) 65535 ≡ false → eqb (length (entries usedMessage (s .link)) + s .acks) 0 ≡ true
-    → handle (setupOf code s) (seen s) PEnd ≡ taken (onP (seen s) ended Running (end (s .p .epoch) ∷ [])) Nothing
+      → handle (setupOf code s) (seen s) PEnd ≡ taken (onP (seen s) ended Running (end (s .p .epoch) ∷ [])) Nothing
   unfolding handle refuse seen seenCard
   pend-verdict a b d = rw (alive, a, b, d)
 
@@ -159,13 +159,13 @@ module _ (code : List ℕ) (s : Pair) (alive : isFailed (s .phase) ≡ false) wh
   pend-card t =
       let again = guest-again (s .p) (p-again s t) in
       let g : boundaryIn (entries usedInterrupt (s .p .buffer)) (clockSent (s .phase)) (s .p .guest) ≡ laidGuest (boundary (entries usedInterrupt (s .p .buffer)) (clockSent (s .phase)) (seenGuest (s .p .guest))) =
-          ap (boundaryIn (entries usedInterrupt (s .p .buffer)) (clockSent (s .phase))) again
-          ∙ laid-boundary (entries usedInterrupt (s .p .buffer)) (clockSent (s .phase)) (seenGuest (s .p .guest)) (p-fits s t) (entries-all usedInterrupt (s .p .buffer)) in
+      ap (boundaryIn (entries usedInterrupt (s .p .buffer)) (clockSent (s .phase))) again
+      ∙ laid-boundary (entries usedInterrupt (s .p .buffer)) (clockSent (s .phase)) (seenGuest (s .p .guest)) (p-fits s t) (entries-all usedInterrupt (s .p .buffer)) in
       λ k. record { guest = g k; epoch = nextEpoch (s .p .epoch); buffer = padded 16 zeroInterrupt [] }
 
   pub pend-taken : Tidy s → isWaiting (s .phase) ≡ true → eqb (s .p .epoch .0) 65535 ≡ false → eqb (length (entries usedMessage (s .link)) + s .acks) 0 ≡ true
-    → done (pairP s (record { guest = boundaryIn (entries usedInterrupt (s .p .buffer)) (clockSent (s .phase)) (s .p .guest); epoch = nextEpoch (s .p .epoch); buffer = padded 16 zeroInterrupt [] }) Running (pushed usedMessage (s .link) (end (s .p .epoch)))) Nothing
-    ≡ does code s PEnd
+      → done (pairP s (record { guest = boundaryIn (entries usedInterrupt (s .p .buffer)) (clockSent (s .phase)) (s .p .guest); epoch = nextEpoch (s .p .epoch); buffer = padded 16 zeroInterrupt [] }) Running (pushed usedMessage (s .link) (end (s .p .epoch)))) Nothing
+      ≡ does code s PEnd
   pend-taken t a b d = taken-sending code s t PEnd pend-formed ended Running Nothing (end (s .p .epoch)) (pend-verdict a b d) _ (λ _. pend-card t)
 
 -- ---- PSTEP
@@ -211,12 +211,12 @@ module _ (code : List ℕ) (s : Pair) (w : ℕ) (alive : isFailed (s .phase) ≡
 
       -- the pair after it: TIME sends its Val, nothing else is sent (P0)
       pub pstep-taken : (t : Tidy s) → (k : List Message) → k ≡ pick (isTime i) (pushed usedMessage (s .link) (val (s .p .epoch) w)) (s .link)
-        → done (pairP s (record { guest = ranIn .guest; epoch = s .p .epoch; buffer = s .p .buffer }) (s .phase) k) (ranIn .shown) ≡ does code s (PStep w)
+          → done (pairP s (record { guest = ranIn .guest; epoch = s .p .epoch; buffer = s .p .buffer }) (s .phase) k) (ranIn .shown) ≡ does code s (PStep w)
       pstep-taken t k e = go (isTime i) pstep-verdict e
         where
           go : (b : Bool) → handle (setupOf code s) (seen s) (PStep w) ≡ taken (onP (seen s) (ranOn (seenCard (s .p)) (ran .guest)) (s .phase) (pick b (val (s .p .epoch) w ∷ []) [])) (ran .shown)
-            → k ≡ pick b (pushed usedMessage (s .link) (val (s .p .epoch) w)) (s .link)
-            → done (pairP s (record { guest = ranIn .guest; epoch = s .p .epoch; buffer = s .p .buffer }) (s .phase) k) (ranIn .shown) ≡ does code s (PStep w)
+              → k ≡ pick b (pushed usedMessage (s .link) (val (s .p .epoch) w)) (s .link)
+              → done (pairP s (record { guest = ranIn .guest; epoch = s .p .epoch; buffer = s .p .buffer }) (s .phase) k) (ranIn .shown) ≡ does code s (PStep w)
           go true v q = rw (q, same-shown t) (taken-sending code s t (PStep w) pstep-formed (ranOn (seenCard (s .p)) (ran .guest)) (s .phase) (ran .shown) (val (s .p .epoch) w) v _ (λ _. pstep-card t))
           go false v q = rw (q, same-shown t) (taken-silent code s t (PStep w) pstep-formed (ranOn (seenCard (s .p)) (ran .guest)) (s .phase) (ran .shown) v _ (pstep-card t))
 

@@ -60,8 +60,8 @@ pub fn p_int(pair: Pair, i: Interrupt) -> Outcome
     ensures { λ r. ⌜ r ≡ does [] pair (PInt i) ⌝ }
 {
     let phase = pair.phase;
-    if pair::is_failed(phase) {
-        return pair::refused(pair, Refusal::Dead);
+    if phases::is_failed(phase) {
+        return outcomes::refused(pair, Refusal::Dead);
     }
     let p = pair.p;
     let g = p.guest;
@@ -69,7 +69,7 @@ pub fn p_int(pair: Pair, i: Interrupt) -> Outcome
     let held = p.buffer;
     let o = i.op;
     if !(table::has(t, o) & !buffer::has(held, o)) {
-        return pair::refused(pair, Refusal::UnknownOperation);
+        return outcomes::refused(pair, Refusal::UnknownOperation);
     }
     let e = p.epoch;
     let link = pair.link;
@@ -80,7 +80,7 @@ pub fn p_int(pair: Pair, i: Interrupt) -> Outcome
     let mut next = pair;
     next.p = card;
     next.link = sent;
-    pair::taken(next, Shown::Nothing)
+    outcomes::taken(next, Shown::Nothing)
 }
 
 // The pair with P in another phase.
@@ -112,20 +112,20 @@ pub fn p_time(pair: Pair, word: u32) -> Outcome
     ensures { λ r. ⌜ r ≡ does [] pair (PTime word) ⌝ }
 {
     let phase = pair.phase;
-    if pair::is_failed(phase) {
-        return pair::refused(pair, Refusal::Dead);
+    if phases::is_failed(phase) {
+        return outcomes::refused(pair, Refusal::Dead);
     }
     let p = pair.p;
     let g = p.guest;
-    if !guest::complete(g, pair.limit) | pair::is_waiting(phase) {
-        return pair::refused(pair, Refusal::OutOfTurn);
+    if !guest::complete(g, pair.limit) | phases::is_waiting(phase) {
+        return outcomes::refused(pair, Refusal::OutOfTurn);
     }
     let e = p.epoch;
     let link = pair.link;
     let sent = mail::link::send(link, worded(3, e, word));
     let mut next = pair;
     next.link = sent;
-    pair::taken(with_phase(next, Phase::Waiting(word)), Shown::Nothing)
+    outcomes::taken(with_phase(next, Phase::Waiting(word)), Shown::Nothing)
 }
 
 // The clock that P has sent, 0 unless it waits.
@@ -145,19 +145,21 @@ pub fn p_end(pair: Pair) -> Outcome
     ensures { λ r. ⌜ r ≡ does [] pair PEnd ⌝ }
 {
     let phase = pair.phase;
-    if pair::is_failed(phase) {
-        return pair::refused(pair, Refusal::Dead);
+    if phases::is_failed(phase) {
+        return outcomes::refused(pair, Refusal::Dead);
     }
-    if !pair::is_waiting(phase) {
-        return pair::refused(pair, Refusal::OutOfTurn);
+    if !phases::is_waiting(phase) {
+        return outcomes::refused(pair, Refusal::OutOfTurn);
     }
     let p = pair.p;
-    if p.epoch.0 == 65535 {
-        return pair::refused(pair, Refusal::EpochsUsedUp);
-    }
     let link = pair.link;
-    if mail::link::count(link) + (pair.acks as usize) != 0 {
-        return pair::refused(pair, Refusal::MustWait);
+    let used_up = p.epoch.0 == 65535;
+    let unacknowledged = mail::link::count(link) + (pair.acks as usize);
+    if used_up {
+        return outcomes::refused(pair, Refusal::EpochsUsedUp);
+    }
+    if unacknowledged != 0 {
+        return outcomes::refused(pair, Refusal::MustWait);
     }
     let e = p.epoch;
     let g = p.guest;
@@ -165,42 +167,26 @@ pub fn p_end(pair: Pair) -> Outcome
     let guest = boundary::boundary(g, held, clock_sent(phase));
     let buffer = buffer::empty();
     let epoch = EpochNo(e.0 + 1);
-    let card = Card { guest, epoch, buffer };
+    let card = Card {
+        guest,
+        epoch,
+        buffer,
+    };
     let sent = mail::link::send(link, worded(4, e, 0));
     let mut next = pair;
     next.p = card;
     next.link = sent;
-    pair::taken(with_phase(next, Phase::Running), Shown::Nothing)
-}
-
-// Whether an instruction is TIME.
-fn is_time(i: Instr) -> bool
-    ensures { λ r. ⌜ r ≡ isTime i ⌝ }
-{
-    match i {
-        Instr::Time(_) => true,
-        Instr::Nop => false,
-        Instr::SetTo(_, _) => false,
-        Instr::Add(_, _, _) => false,
-        Instr::Sub(_, _, _) => false,
-        Instr::Div(_, _, _) => false,
-        Instr::Load(_, _) => false,
-        Instr::Store(_, _) => false,
-        Instr::Jz(_, _) => false,
-        Instr::Take(_, _, _) => false,
-        Instr::Start(_, _, _) => false,
-        Instr::Timer(_) => false,
-    }
+    outcomes::taken(with_phase(next, Phase::Running), Shown::Nothing)
 }
 
 // What P's instruction sends: TIME its Val (P0), any other nothing.
 fn sends(link: [Message; 58], i: Instr, e: EpochNo, word: u32) -> [Message; 58]
     ensures { λ r. ⌜ r ≡ pick (isTime i) (pushed usedMessage link (valOf e word)) link ⌝ }
 {
-    if is_time(i) {
-        return mail::link::send(link, worded(1, e, word));
+    match i {
+        Instr::Time(_) => mail::link::send(link, worded(1, e, word)),
+        _ => link,
     }
-    link
 }
 
 // A well formed instruction on P.
@@ -221,7 +207,7 @@ fn p_run(pair: Pair, program: &[u8], i: Instr, word: u32) -> Outcome
     let mut next = pair;
     next.p = card;
     next.link = sent;
-    pair::taken(next, shown)
+    outcomes::taken(next, shown)
 }
 
 // PSTEP: one instruction on P. TIME reads the word and sends Val (P0); START adds to the record.
@@ -230,17 +216,17 @@ pub fn p_step(pair: Pair, program: &[u8], word: u32) -> Outcome
     ensures { λ r. ⌜ r ≡ does (now (program .entry)) pair (PStep word) ⌝ }
 {
     let phase = pair.phase;
-    if pair::is_failed(phase) {
-        return pair::refused(pair, Refusal::Dead);
+    if phases::is_failed(phase) {
+        return outcomes::refused(pair, Refusal::Dead);
     }
     let p = pair.p;
     let g = p.guest;
     if guest::complete(g, pair.limit) {
-        return pair::refused(pair, Refusal::OutOfTurn);
+        return outcomes::refused(pair, Refusal::OutOfTurn);
     }
     let d = program::fetch(program, pair.count, g.pc);
     match d {
         Decoded::Good(i) => p_run(pair, program, i, word),
-        Decoded::Bad => pair::refused(pair, Refusal::BadProgram),
+        Decoded::Bad => outcomes::refused(pair, Refusal::BadProgram),
     }
 }

@@ -8,7 +8,7 @@ use Rattle.guest.specs.InSlots.{instructionIn}
 use Rattle.mail.proofs.Laws.{word-val}
 use Rattle.mail.specs.Mail.{wordOf}
 use Rattle.pair.proofs.Goes.{b-again, b-fits, buffer-again, does-refused, guest-again, inbox-same}
-use Rattle.pair.specs.Made.{done}
+use Rattle.outcomes.specs.Made.{done}
 use Rattle.pair.specs.Tidy.{Tidy, does}
 use Rattle.rules.specs.Decode.{fetch, instrOf, isBad}
 use Rattle.rules.specs.Events.{handle, refuse, refused, taken, unread}

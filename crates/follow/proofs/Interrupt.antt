@@ -6,7 +6,7 @@ use Prim.Native.Nat.{_<_}
 use lib.ListN.{length, length-append}
 use native.Mathlib.Omega.{arith}
 use Rattle.pair.proofs.Goes.{b-again, buffer-more, does-refused, does-taken, guest-again, inbox-same, next-fits}
-use Rattle.pair.specs.Made.{done}
+use Rattle.outcomes.specs.Made.{done}
 use Rattle.pair.specs.Tidy.{Tidy, does}
 use Rattle.rules.proofs.PairSlots.{Fits}
 use Rattle.rules.specs.Events.{handle, malformed, refuse, refused, taken}

@@ -2,7 +2,7 @@
 use mathlib.Core.List.{List}
 use mathlib.Core.Path.{_∙_, _≡_, ap, sym}
 use Rattle.pair.proofs.Goes.{goes-b}
-use Rattle.pair.specs.Made.{done}
+use Rattle.outcomes.specs.Made.{done}
 use Rattle.pair.specs.Tidy.{Tidy}
 use Rattle.rules.specs.Events.{Verdict, taken}
 use Rattle.rules.specs.Pair.{onB}

@@ -7,7 +7,7 @@ use lib.Dec.{eqb}
 use Rattle.boundary.proofs.Laid.{laid-boundary, laid-close, laid-delivers, laid-uncertain}
 use Rattle.boundary.specs.InSlots.{boundaryIn, closeIn, tellUncertainIn}
 use Rattle.pair.proofs.Goes.{b-again, b-fits, does-refused, guest-again, inbox-same}
-use Rattle.pair.specs.Made.{done}
+use Rattle.outcomes.specs.Made.{done}
 use Rattle.pair.specs.Tidy.{Tidy, does}
 use Rattle.rules.proofs.GuestSlots.{FitsGuest, fits-delivers, fits-uncertain, proper-used}
 use Rattle.rules.proofs.Lists.{all-every, all-map, every-all}

@@ -75,7 +75,7 @@ fn b_run(pair: Pair, program: &[u8], i: Instr, word: u32) -> Outcome
     let mut next = pair;
     next.b = card;
     next.inbox = rest;
-    pair::taken(next, shown)
+    outcomes::taken(next, shown)
 }
 
 // BSTEP: one instruction on B; epoch 0 or complete 3, instruction at pc bad 8.
@@ -86,13 +86,13 @@ pub fn b_step(pair: Pair, program: &[u8], word: u32) -> Outcome
     let b = pair.b;
     let g = b.guest;
     if (b.epoch.0 == 0) | guest::complete(g, pair.limit) {
-        return pair::refused(pair, Refusal::OutOfTurn);
+        return outcomes::refused(pair, Refusal::OutOfTurn);
     }
     let pc = g.pc;
     let decoded = program::fetch(program, pair.count, pc);
     match decoded {
         Decoded::Good(i) => b_run(pair, program, i, word),
-        Decoded::Bad => pair::refused(pair, Refusal::BadProgram),
+        Decoded::Bad => outcomes::refused(pair, Refusal::BadProgram),
     }
 }
 
@@ -175,13 +175,13 @@ fn end_following(pair: Pair, word: u32) -> Outcome
     let guest = turned(g, e, inbox, word);
     // P5: "[end, e_b+1] is in the inbox"
     if mail::inbox::has_end(inbox, next) {
-        return pair::taken(leave(pair, guest, Role::Following), Shown::Nothing);
+        return outcomes::taken(leave(pair, guest, Role::Following), Shown::Nothing);
     }
     // P7: "or else .. the stop is detected", and failover begins
     if pair.detected {
-        return pair::taken(leave(pair, guest, Role::Failover), Shown::Nothing);
+        return outcomes::taken(leave(pair, guest, Role::Failover), Shown::Nothing);
     }
-    pair::refused(pair, Refusal::MustWait)
+    outcomes::refused(pair, Refusal::MustWait)
 }
 
 // BEND in failover: "then the next epoch, promoted".
@@ -194,7 +194,7 @@ fn end_failover(pair: Pair, word: u32) -> Outcome
     let g = b.guest;
     let inbox = pair.inbox;
     let guest = turned_last(g, e, inbox, word);
-    pair::taken(leave(pair, guest, Role::Promoted), Shown::Nothing)
+    outcomes::taken(leave(pair, guest, Role::Promoted), Shown::Nothing)
 }
 
 // BEND once promoted: "boundary with B's own buffer and the word, then the next epoch".
@@ -207,7 +207,7 @@ fn end_promoted(pair: Pair, word: u32) -> Outcome
     let held = b.buffer;
     let inbox = pair.inbox;
     let guest = boundary::boundary(g, held, word);
-    pair::taken(enter(pair, guest, Role::Promoted, inbox), Shown::Nothing)
+    outcomes::taken(enter(pair, guest, Role::Promoted, inbox), Shown::Nothing)
 }
 
 // BEND: epoch not 0 and not complete 3; epoch 65,535 7; then by B's role.
@@ -221,10 +221,10 @@ pub fn b_end(pair: Pair, word: u32) -> Outcome
     let used_up = b.epoch.0 == 65535;
     let complete = guest::complete(g, pair.limit);
     if !idle & !complete {
-        return pair::refused(pair, Refusal::OutOfTurn);
+        return outcomes::refused(pair, Refusal::OutOfTurn);
     }
     if used_up {
-        return pair::refused(pair, Refusal::EpochsUsedUp);
+        return outcomes::refused(pair, Refusal::EpochsUsedUp);
     }
     let role = pair.role;
     match role {
@@ -242,22 +242,22 @@ pub fn b_int(pair: Pair, i: Interrupt) -> Outcome
     ensures { λ r. ⌜ r ≡ does [] pair (BInt i) ⌝ }
 {
     let role = pair.role;
-    let promoted = pair::is_promoted(role);
+    let promoted = phases::is_promoted(role);
     // P3
     if !promoted {
-        return pair::taken(pair, Shown::Nothing);
+        return outcomes::taken(pair, Shown::Nothing);
     }
     let b = pair.b;
     let t = b.guest.table;
     let held = b.buffer;
     let o = i.op;
     if !(table::has(t, o) & !buffer::has(held, o)) {
-        return pair::refused(pair, Refusal::UnknownOperation);
+        return outcomes::refused(pair, Refusal::UnknownOperation);
     }
     let more = buffer::add(held, i);
     let mut card = b;
     card.buffer = more;
     let mut next = pair;
     next.b = card;
-    pair::taken(next, Shown::Nothing)
+    outcomes::taken(next, Shown::Nothing)
 }

@@ -13,10 +13,10 @@ use lib.ListN.{length}
 use Rattle.slots.proofs.Tests.{and-true, both}
 use Rattle.words.specs.Numbers.{Bytes}
 use Rattle.words.specs.Arrays.{each}
-use Rattle.words.proofs.Part.{part, part-front, part-back}
-use Rattle.words.proofs.Form.{Form, AnyThing, via}
-use Rattle.words.proofs.Form as F
-use Rattle.words.proofs.Width.{form8, form16, form32}
+use Rattle.forms.proofs.Part.{part, part-front, part-back}
+use Rattle.forms.proofs.Form.{Form, AnyThing, via}
+use Rattle.forms.proofs.Form as F
+use Rattle.forms.proofs.Width.{form8, form16, form32}
 use Rattle.forms.specs.Stored.{Stored, byte, half, word, always, _then_, all, array as arrayOf, storedAs, flag, flagNumber}
 
 pub record Lawful {A : Type 0} (S : Stored A) (Fit : A → Type 0) : Type 0 where

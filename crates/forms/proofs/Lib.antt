@@ -1,3 +1,7 @@
+pub mod Part
+pub mod Form
+pub mod Width
+pub mod Example
 pub mod Lawful
 pub mod Stretch
 pub mod Loops

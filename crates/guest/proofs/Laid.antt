@@ -31,7 +31,7 @@ laid-start g f x y z =
     ∙ go (cannotStart g) refl
   where
     go : (b : Bool) → cannotStart g ≡ b
-      → pick b (quiet (withReg (laidGuest g) z 0)) (inTable (pushed usedOp (padded 16 zeroOp (g .table)) (nextOp g)) (starts (laidGuest g) x y z)) ≡ laidRan (pick b (quiet (withReg g z 0)) (starts g x y z))
+        → pick b (quiet (withReg (laidGuest g) z 0)) (inTable (pushed usedOp (padded 16 zeroOp (g .table)) (nextOp g)) (starts (laidGuest g) x y z)) ≡ laidRan (pick b (quiet (withReg g z 0)) (starts g x y z))
     go true e = refl
     go false e = ap (λ (t : List OpNo). inTable t (starts (laidGuest g) x y z)) (pushed-padded usedOp zeroOp refl 16 (g .table) (nextOp g) (f .table) (room-start g f e))
 

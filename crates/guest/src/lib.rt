@@ -65,7 +65,11 @@ fn sum(a: u32, b: u32) -> u32
 fn difference(a: u32, b: u32) -> u32
     ensures { λ r. ⌜ r ≡ differenceOf a b ⌝ }
 {
-    if b <= a { a - b } else { a + (4294967295 - b) + 1 }
+    if b <= a {
+        a - b
+    } else {
+        a + (4294967295 - b) + 1
+    }
 }
 
 // "rounded down; 4,294,967,295 for divisor 0"

@@ -13,7 +13,7 @@ use Rattle.slots.proofs.Tests.{and-true, both}
 use Rattle.forms.specs.Lent.{refusing, whereTaken}
 use Rattle.layout.proofs.Image.{image-at-bytes, image-at-sized, image-bytes-at, image-bytes-fine, image-bytes-length}
 use Rattle.layout.specs.Image.{GuestSized, PairSized, imageAt, imageBytes, imageFine, imageLength, soundImage}
-use Rattle.pair.specs.Made.{done}
+use Rattle.outcomes.specs.Made.{done}
 use Rattle.rules.proofs.PairKept.{pair-kept}
 use Rattle.rules.proofs.PairSlots.{sound-laid-pair}
 use Rattle.rules.proofs.PairWhole.{whole-fresh}

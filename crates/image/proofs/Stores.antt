@@ -20,7 +20,7 @@ use Rattle.rules.specs.declared.Pair.{Pair}
 use Rattle.rules.specs.declared.Refusal.{Refusal}
 use Rattle.rules.specs.declared.Refusal.the-variants.{BadFile, BadProgram, TooShort, Unsound}
 use Rattle.rules.specs.declared.Shown.the-variants.{Nothing}
-use Rattle.pair.specs.Made.{done}
+use Rattle.outcomes.specs.Made.{done}
 use Rattle.words.specs.Wrote.{Wrote}
 use Rattle.image.specs.Stores.{Fitted, Retired, Saved, loaded, retireAnswer, retireLeaves, room, saveAnswer, saveLeaves, zeros}
 

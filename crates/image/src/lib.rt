@@ -39,7 +39,7 @@ pub fn save(pair: Pair, buf: &mut [u8]) -> Answer
 fn no_pair(why: Refusal) -> Outcome
     ensures { λ r. ⌜ r ≡ outcome zeroPair (refused why) ⌝ }
 {
-    pair::refused(pair::nothing(), why)
+    outcomes::refused(outcomes::nothing(), why)
 }
 
 // The pair of an image: 10 where it has not the length of one, then 11 where it is not sound.
@@ -55,7 +55,7 @@ pub fn load(image: &[u8]) -> Outcome
     if !(fine & sound) {
         return no_pair(Refusal::Unsound);
     }
-    pair::taken(pair, Shown::Nothing)
+    outcomes::taken(pair, Shown::Nothing)
 }
 
 // Every byte of the store becomes 0.
@@ -73,7 +73,7 @@ pub fn retire(program: &[u8], l: u16, store: &mut [u8]) -> Answer
     ensures { λ r. ⌜ Retired (now (program .entry)) l (now (store .entry)) r (now (store .exit)) ⌝ }
 {
     wipe(store);
-    let made = pair::set_up(program, l);
+    let made = outcomes::set_up(program, l);
     let answer = made.answer;
     match answer {
         Answer::Taken => fit(made.pair, store),

@@ -6,7 +6,7 @@ use native.Mathlib.Omega.{arith}
 use lib.Dec.{eqb, leb}
 use borrow.Author.Tests.{leb-true, eqb-true}
 use Rattle.slots.proofs.Tests.{and-true}
-use Rattle.words.proofs.Form.{AnyThing}
+use Rattle.forms.proofs.Form.{AnyThing}
 use Rattle.forms.specs.Stored.{any}
 use Rattle.forms.proofs.Lawful.{Lawful, byte-lawful, half-lawful, word-lawful, flag-lawful, always-lawful, anything, _and-then_, array-lawful, storedAs-lawful}
 use Rattle.rules.specs.Pair.{clockSent}

@@ -7,7 +7,7 @@ use native.Mathlib.Omega.{arith}
 use lib.ListN.{length, take}
 use lib.Seq.{take-all}
 use Rattle.words.specs.Numbers.{Bytes}
-use Rattle.words.proofs.Form.{AnyThing, load-save, save-load}
+use Rattle.forms.proofs.Form.{AnyThing, load-save, save-load}
 use Rattle.words.proofs.Arrays.{length-tab}
 use Rattle.forms.proofs.Lawful.{Lawful, byte-lawful, half-lawful, word-lawful, flag-lawful, always-lawful, anything, _and-then_, array-lawful, storedAs-lawful}
 use Rattle.rules.specs.declared.Pair.{Pair}

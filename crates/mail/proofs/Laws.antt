@@ -34,6 +34,6 @@ heard-ints e g [] = refl
 heard-ints e g (m ∷ ms) = go (ofKind 2 e m) (heard-ints e (deliverIn g (interruptOf m)) ms) (heard-ints e g ms)
   where
     go : (b : Bool) → folded (hearIn e) (deliverIn g (interruptOf m)) ms ≡ deliversIn (deliverIn g (interruptOf m)) (ints e ms) → folded (hearIn e) g ms ≡ deliversIn g (ints e ms)
-      → folded (hearIn e) (pick b (deliverIn g (interruptOf m)) g) ms ≡ deliversIn g (place (only b (interruptOf m)) (ints e ms))
+        → folded (hearIn e) (pick b (deliverIn g (interruptOf m)) g) ms ≡ deliversIn g (place (only b (interruptOf m)) (ints e ms))
     go true u v = unfold place only in u
     go false u v = unfold place only in v

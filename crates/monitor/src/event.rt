@@ -11,7 +11,11 @@ use rules::Reading;
 fn heard(ok: bool, ev: Event) -> Reading
     ensures { λ r. ⌜ r ≡ heardOf ok ev ⌝ }
 {
-    if ok { Reading::WellFormed(ev) } else { Reading::IllFormed }
+    if ok {
+        Reading::WellFormed(ev)
+    } else {
+        Reading::IllFormed
+    }
 }
 
 // "Kinds 1, 3, 9, 10 use the word. Kinds 2 and 11 use status .., operation .., data in the word .. All else is 0"

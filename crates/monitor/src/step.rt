@@ -5,12 +5,12 @@ ghost use Rattle.rules.specs.Events.{malformed};
 ghost use Rattle.rules.specs.PairSlots.{apply, outcome};
 ghost use Rattle.rules.specs.Bytes.{stepped};
 ghost use Rattle.pair.specs.Tidy.{Tidy, does};
+use crate::event;
 use rules::Event;
 use rules::Outcome;
 use rules::Pair;
 use rules::Reading;
 use rules::Refusal;
-use crate::event;
 
 // A well formed event on a sound pair, under a program of 4N bytes: 01's table, row by row.
 fn handle(program: &[u8], pair: Pair, ev: Event) -> Outcome
@@ -37,13 +37,13 @@ pub fn take(program: &[u8], pair: Pair, ev: Event) -> Outcome
     ensures { λ r. ⌜ r ≡ outcome pair (apply (now (program .entry)) pair ev) ⌝ }
 {
     if event::malformed(ev) {
-        return pair::refused(pair, Refusal::Malformed);
+        return outcomes::refused(pair, Refusal::Malformed);
     }
     if !pair::sound(pair) {
-        return pair::refused(pair, Refusal::Unsound);
+        return outcomes::refused(pair, Refusal::Unsound);
     }
     if program.len() != 4 * (pair.count as usize) {
-        return pair::refused(pair, Refusal::BadProgram);
+        return outcomes::refused(pair, Refusal::BadProgram);
     }
     handle(program, pair, ev)
 }
@@ -55,6 +55,6 @@ pub fn step(program: &[u8], pair: Pair, event: &[u8]) -> Outcome
     let read = event::read_event(event);
     match read {
         Reading::WellFormed(ev) => take(program, pair, ev),
-        Reading::IllFormed => pair::refused(pair, Refusal::Malformed),
+        Reading::IllFormed => outcomes::refused(pair, Refusal::Malformed),
     }
 }

@@ -24,7 +24,7 @@ use Rattle.rules.specs.declared.Role.{Role}
 use Rattle.rules.specs.declared.Shown.{Shown}
 use Rattle.slots.proofs.Padded.{padded-push}
 use Rattle.slots.specs.Slots.{entries, padded, pushed}
-use Rattle.pair.specs.Made.{done}
+use Rattle.outcomes.specs.Made.{done}
 use Rattle.pair.specs.Tidy.{Tidy, does}
 
 module _ (s : Pair) (t : Tidy s) where
@@ -62,14 +62,14 @@ module _ (s : Pair) (t : Tidy s) where
 
   -- another first card and phase, and messages sent
   pub goes-p : (c′ c : Card) (f : Phase) (ms k : List Message) → c′ ≡ laidCard c → k ≡ padded 58 zeroMessage (entries usedMessage (s .link) ++ ms)
-    → record { p = c′; phase = f; b = s .b; role = s .role; detected = s .detected; limit = s .limit; count = s .count; link = k; acks = s .acks; inbox = s .inbox } ≡ laid (onP (seen s) c f ms)
+      → record { p = c′; phase = f; b = s .b; role = s .role; detected = s .detected; limit = s .limit; count = s .count; link = k; acks = s .acks; inbox = s .inbox } ≡ laid (onP (seen s) c f ms)
   unfolding laid onP seen
   goes-p c′ c f ms k e l =
       λ i. record { p = e i; phase = f; b = b-again i; role = s .role; detected = s .detected; limit = s .limit; count = s .count; link = l i; acks = s .acks; inbox = inbox-again i }
 
   -- another second card and role, and what is left of the inbox
   pub goes-b : (c′ c : Card) (o : Role) (ms k : List Message) → c′ ≡ laidCard c → k ≡ padded 128 zeroMessage ms
-    → record { p = s .p; phase = s .phase; b = c′; role = o; detected = s .detected; limit = s .limit; count = s .count; link = s .link; acks = s .acks; inbox = k } ≡ laid (onB (seen s) c o ms)
+      → record { p = s .p; phase = s .phase; b = c′; role = o; detected = s .detected; limit = s .limit; count = s .count; link = s .link; acks = s .acks; inbox = k } ≡ laid (onB (seen s) c o ms)
   unfolding laid onB seen
   goes-b c′ c o ms k e l =
       λ i. record { p = p-again i; phase = s .phase; b = e i; role = o; detected = s .detected; limit = s .limit; count = s .count; link = link-again i; acks = s .acks; inbox = l i }

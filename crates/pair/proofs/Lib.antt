@@ -1,5 +1,5 @@
 pub mod Slots
 pub mod Parts
-pub mod Made
 pub mod Goes
 pub mod Exact
+pub mod Times

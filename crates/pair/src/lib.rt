@@ -8,29 +8,17 @@ ghost use Rattle.slots.specs.Slots.{entries, padded, tight, every};
 ghost use Rattle.rules.specs.Guest.{listed, opsOf};
 ghost use Rattle.rules.specs.GuestSound.{proper};
 ghost use Rattle.rules.specs.GuestSlots.{usedOp, usedInterrupt, zeroInterrupt, isZeroInterrupt};
-ghost use Rattle.rules.specs.Pair.{isFailed, isWaiting, isFollowing, isPromoted};
 ghost use Rattle.rules.specs.Sound.{once as onceOf, soundMessage, extra as extraOf, soundTurns, soundLimits};
 ghost use Rattle.rules.specs.PairSlots.{usedMessage, zeroMessage, isZeroMessage, seenCard, seen, laidCard, laid as laidOf, tightCard, soundPair};
 ghost use Rattle.pair.specs.Sound.{soundCard, allTabled};
-ghost use Rattle.rules.specs.Guest.{fresh};
-ghost use Rattle.rules.specs.GuestSlots.{laidGuest};
-ghost use Rattle.rules.specs.Events.{refused as refusedOf};
-ghost use Rattle.rules.specs.PairSlots.{outcome as outcomeOf, made, zeroPair};
-ghost use Rattle.rules.specs.Program.{under};
-ghost use Rattle.pair.specs.Made.{done, blank as blankOf};
-use rules::Answer;
 use rules::Card;
-use rules::EpochNo;
 use rules::Guest;
 use rules::Interrupt;
 use rules::Message;
 use rules::OpNo;
-use rules::Outcome;
 use rules::Pair;
 use rules::Phase;
-use rules::Refusal;
 use rules::Role;
-use rules::Shown;
 
 // A free slot with nothing left in it.
 fn is_zero(m: Message) -> bool
@@ -52,7 +40,10 @@ fn sound_message(m: Message) -> bool
     if m.kind == 2 {
         return (1 <= m.epoch.0) & sound::proper(i);
     }
-    (1 <= m.epoch.0) & ((m.status == 0) & (m.op.0 == 0) & ((m.kind == 1) | (m.kind == 3) | ((m.kind == 4) & (m.word == 0))))
+    (1 <= m.epoch.0)
+        & ((m.status == 0)
+            & (m.op.0 == 0)
+            & ((m.kind == 1) | (m.kind == 3) | ((m.kind == 4) & (m.word == 0))))
 }
 
 // The link's slots: used ones from the front, each a sound message, and zeros behind.
@@ -194,50 +185,6 @@ fn sound_card(c: Card, n: u16, l: u16) -> bool
     sound::sound_guest(g, n, l) & sound_slots(xs) & tabled(xs, t) & once(xs)
 }
 
-// P has stopped for good.
-pub fn is_failed(phase: Phase) -> bool
-    ensures { λ r. ⌜ r ≡ isFailed phase ⌝ }
-{
-    match phase {
-        Phase::Running => false,
-        Phase::Waiting(_) => false,
-        Phase::Failed => true,
-    }
-}
-
-// P has sent its clock and waits for the acknowledgements.
-pub fn is_waiting(phase: Phase) -> bool
-    ensures { λ r. ⌜ r ≡ isWaiting phase ⌝ }
-{
-    match phase {
-        Phase::Running => false,
-        Phase::Waiting(_) => true,
-        Phase::Failed => false,
-    }
-}
-
-// B follows P.
-pub fn is_following(role: Role) -> bool
-    ensures { λ r. ⌜ r ≡ isFollowing role ⌝ }
-{
-    match role {
-        Role::Following => true,
-        Role::Failover => false,
-        Role::Promoted => false,
-    }
-}
-
-// B drives the devices.
-pub fn is_promoted(role: Role) -> bool
-    ensures { λ r. ⌜ r ≡ isPromoted role ⌝ }
-{
-    match role {
-        Role::Following => false,
-        Role::Failover => false,
-        Role::Promoted => true,
-    }
-}
-
 // "(1 if waiting or failed)"
 fn extra(phase: Phase) -> usize
     ensures is { λ r. ⌜ r ≡ extraOf phase ⌝ }
@@ -269,13 +216,13 @@ fn sound_turns(pair: Pair) -> bool
     let gb = b.guest;
     let xs = b.buffer;
     let idle = b.epoch.0 == 0;
-    let following = is_following(role);
+    let following = phases::is_following(role);
     (1 <= p.epoch.0)
         & (!idle | (following & (gb.done == 0)))
-        & (!is_waiting(phase) | guest::complete(gp, pair.limit))
-        & (!pair.detected | is_failed(phase))
+        & (!phases::is_waiting(phase) | guest::complete(gp, pair.limit))
+        & (!pair.detected | phases::is_failed(phase))
         & (following | pair.detected)
-        & (is_promoted(role) | (buffer::count(xs) == 0))
+        & (phases::is_promoted(role) | (buffer::count(xs) == 0))
 }
 
 // "messages on the link plus acknowledgements in flight ≤ 1 + P's TIMEs + P's buffered + (1 if waiting or failed), and 58"
@@ -309,105 +256,4 @@ pub fn sound(pair: Pair) -> bool
         & (mail::inbox::count(inbox) <= 128)
         & few(out, times, buffer::count(held), extra(phase))
         & sound_turns(pair)
-}
-
-// A refused pair is the pair as it came, and shows nothing.
-pub fn refused(pair: Pair, why: Refusal) -> Outcome
-    ensures { λ r. ⌜ r ≡ outcomeOf pair (refusedOf why) ⌝ }
-{
-    let answer = Answer::Refused(why);
-    let shown = Shown::Nothing;
-    Outcome { answer, pair, shown }
-}
-
-// Taken: the next pair, and what the devices are shown.
-pub fn taken(pair: Pair, shown: Shown) -> Outcome
-    ensures { λ r. ⌜ r ≡ done pair shown ⌝ }
-{
-    let answer = Answer::Taken;
-    Outcome { answer, pair, shown }
-}
-
-// "Fresh: all zero"
-fn fresh_guest() -> Guest
-    ensures { λ r. ⌜ r ≡ laidGuest fresh ⌝ }
-{
-    let free = Interrupt {
-        status: 0,
-        op: OpNo(0),
-        word: 0,
-    };
-    let none = OpNo(0);
-    let last = OpNo(0);
-    Guest {
-        pc: 0,
-        done: 0,
-        times: 0,
-        armed: false,
-        deadline: 0,
-        regs: [0; 8],
-        mem: [0; 64],
-        last,
-        table: [none; 16],
-        queue: [free; 17],
-    }
-}
-
-// A pair in which nothing has happened: both guests fresh, P in the epoch given, B in epoch 0, following.
-fn blank(epoch: u16, n: u16, l: u16) -> Pair
-    ensures { λ r. ⌜ r ≡ laidOf (blankOf epoch n l) ⌝ }
-{
-    let guest = fresh_guest();
-    let held = buffer::empty();
-    let zero = Message {
-        kind: 0,
-        status: 0,
-        epoch: EpochNo(0),
-        op: OpNo(0),
-        word: 0,
-    };
-    let p = Card {
-        guest,
-        epoch: EpochNo(epoch),
-        buffer: held,
-    };
-    let b = Card {
-        guest,
-        epoch: EpochNo(0),
-        buffer: held,
-    };
-    let phase = Phase::Running;
-    let role = Role::Following;
-    Pair {
-        p,
-        phase,
-        b,
-        role,
-        detected: false,
-        limit: l,
-        count: n,
-        link: [zero; 58],
-        acks: 0,
-        inbox: [zero; 128],
-    }
-}
-
-// "Where nothing is made, zeros .. stand in its place"
-pub fn nothing() -> Pair
-    ensures { λ r. ⌜ r ≡ zeroPair ⌝ }
-{
-    blank(0, 0, 0)
-}
-
-// Set-up: a program and L to a fresh pair, or 8 and zeros in its place.
-pub fn set_up(program: &[u8], l: u16) -> Outcome
-    ensures { λ r. ⌜ r ≡ made (under (now (program .entry)) l) ⌝ }
-{
-    let n = program.len() / 4;
-    let good = program::good_program(program);
-    if (1 <= l) & (l <= 4096) & good {
-        let count = n as u16;
-        return taken(blank(1, count, l), Shown::Nothing);
-    }
-    refused(nothing(), Refusal::BadProgram)
 }

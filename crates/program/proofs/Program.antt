@@ -16,6 +16,7 @@ bad-up-to code n k (suc m) h b = go (eq-or-lt-of-le (le-of-suc-le-suc h)) (λ l.
     and-false : (a b : Bool) → b ≡ true → a && not b ≡ false
     and-false true b e = rw e
     and-false false b e = refl
+
     go : (k ≡ m) ⊎ (k < m) → (k < m → goodUpTo code n m ≡ false) → goodUpTo code n m && not (isBad (fetch code n m)) ≡ false
     go (inl e) ih = and-false (goodUpTo code n m) (isBad (fetch code n m)) (rw e at b)
     go (inr l) ih = rw (ih l)

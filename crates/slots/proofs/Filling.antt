@@ -100,18 +100,20 @@ module _ {A : Type 0} (used isZero ok : A → Bool) where
         swap true b c = refl
         swap false true c = refl
         swap false false c = refl
+
         with-true : (a b : Bool) → a && b ≡ a && b && true
         with-true true true = refl
         with-true true false = refl
         with-true false b = refl
+
         go : (b : Bool) → inOrder false xs ≡ tight used isZero xs && every ok (entries used xs)
-          → pick b (not false && ok x && inOrder false xs) (isZero x && inOrder true xs) ≡ every isZero (drop (length (pick b (x ∷ entries used xs) [])) (x ∷ xs)) && every ok (pick b (x ∷ entries used xs) [])
+            → pick b (not false && ok x && inOrder false xs) (isZero x && inOrder true xs) ≡ every isZero (drop (length (pick b (x ∷ entries used xs) [])) (x ∷ xs)) && every ok (pick b (x ∷ entries used xs) [])
         go true h = rw h (swap (ok x) (tight used isZero xs) (every ok (entries used xs)))
         go false h = rw (all-free xs) (with-true (isZero x) (every isZero xs))
 
     -- a loop that tests each slot and answers r: what r says; and where it says yes, the slots are what they hold, laid out
     pub ordered : (z : A) → ((x : A) → isZero x ≡ true → x ≡ z) → (n : ℕ) (xs : List A) → length xs ≡ n → (r : Bool) → inOrder false xs ≡ r
-      → (r ≡ tight used isZero xs && every ok (entries used xs)) × (r ≡ true → xs ≡ padded n z (entries used xs))
+        → (r ≡ tight used isZero xs && every ok (entries used xs)) × (r ≡ true → xs ≡ padded n z (entries used xs))
     ordered z zero-is n xs l r e =
         let is : r ≡ tight used isZero xs && every ok (entries used xs) = sym e ∙ in-order xs in
         (is, λ h. tight-laid used isZero z zero-is n xs l (and-true (tight used isZero xs) (every ok (entries used xs)) (sym is ∙ h) .0))

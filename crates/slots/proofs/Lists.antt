@@ -112,7 +112,7 @@ keep-less p [] e = absurd (false≢true e)
 keep-less {A} p (x ∷ xs) e = go (p x) (keep-less p xs) (keep-length (λ (y : A). not (p y)) xs) e
   where
     go : (b : Bool) → (any p xs ≡ true → suc (length (keep (λ (y : A). not (p y)) xs)) ≤ length xs) → length (keep (λ (y : A). not (p y)) xs) ≤ length xs
-      → b || any p xs ≡ true → suc (length (pick (not b) (x ∷ keep (λ (y : A). not (p y)) xs) (keep (λ (y : A). not (p y)) xs))) ≤ suc (length xs)
+        → b || any p xs ≡ true → suc (length (pick (not b) (x ∷ keep (λ (y : A). not (p y)) xs) (keep (λ (y : A). not (p y)) xs))) ≤ suc (length xs)
     go true ih l h = suc-le-suc l
     go false ih l h = suc-le-suc (ih h)
 
@@ -123,7 +123,7 @@ count-split p [] = refl
 count-split {A} p (x ∷ xs) = go (p x) (count-split p xs)
   where
     go : (b : Bool) → count p xs + count (λ (y : A). not (p y)) xs ≡ length xs
-      → length (pick b (x ∷ keep p xs) (keep p xs)) + length (pick (not b) (x ∷ keep (λ (y : A). not (p y)) xs) (keep (λ (y : A). not (p y)) xs)) ≡ suc (length xs)
+        → length (pick b (x ∷ keep p xs) (keep p xs)) + length (pick (not b) (x ∷ keep (λ (y : A). not (p y)) xs) (keep (λ (y : A). not (p y)) xs)) ≡ suc (length xs)
     go true h = omega arith
     go false h = omega arith
 

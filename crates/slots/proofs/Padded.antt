@@ -64,7 +64,7 @@ module _ {A : Type 0} (used isZero : A → Bool) (z : A) (zero-is : (x : A) → 
   as-held (x ∷ xs) e = go (used x) (as-held xs) e
     where
       go : (b : Bool) → (every isZero (drop (length (entries used xs)) xs) ≡ true → xs ≡ padded (length xs) z (entries used xs)) → every isZero (drop (length (pick b (x ∷ entries used xs) [])) (x ∷ xs)) ≡ true
-        → x ∷ xs ≡ padded (length (x ∷ xs)) z (pick b (x ∷ entries used xs) [])
+          → x ∷ xs ≡ padded (length (x ∷ xs)) z (pick b (x ∷ entries used xs) [])
       go true ih h = ap (λ (l : List A). x ∷ l) (ih h)
       go false ih h = all-zero (x ∷ xs) h
 

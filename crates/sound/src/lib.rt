@@ -19,7 +19,11 @@ pub fn proper(i: Interrupt) -> bool
 fn sound_entry(i: Interrupt) -> bool
     ensures { λ r. ⌜ r ≡ soundEntryOf i ⌝ }
 {
-    if i.status == 3 { i.op.0 == 0 } else { proper(i) }
+    if i.status == 3 {
+        i.op.0 == 0
+    } else {
+        proper(i)
+    }
 }
 
 // A free slot with nothing left in it.
@@ -93,7 +97,11 @@ pub fn sound_guest(g: Guest, n: u16, l: u16) -> bool
 {
     let t = g.table;
     let q = g.queue;
-    let scalars = (g.armed | (g.deadline == 0)) & (g.pc < n) & (g.done <= l) & (g.times <= 40) & ((g.times as u16) <= g.done);
+    let scalars = (g.armed | (g.deadline == 0))
+        & (g.pc < n)
+        & (g.done <= l)
+        & (g.times <= 40)
+        & ((g.times as u16) <= g.done);
     let room = (queue::timers(q) <= 1) & (table::count(t) + queue::devices(q) <= 16);
     tight_table(t) & sound_queue(q) & scalars & rising(t, g.last.0) & room
 }

@@ -1,15 +1,16 @@
 use borrow.Author.Needs.{needs}
+use Rattle.pair.proofs.Times.{not-time}
+use Rattle.rules.specs.Instruction.{isTime}
 use Rattle.rules.specs.Messages.{val}
 use Rattle.first.proofs.sends.Statement.{statement}
 use Rattle.first.proofs.sends.Tie as tie
 
 returns : tie.Need-returns
-unfolding val
-returns c = rw (c .send .ensures, c .before .worded .ensures, ← c .before .before .before .is-time .ensures, c .before .before .if1 .taken)
+unfolding isTime val
+returns c = rw (c .send .ensures, c .before .worded .ensures, c .before .before .enum-told .given .1)
 
 returns-2 : tie.Need-returns-2
-unfolding val
-returns-2 c = rw (← c .before .is-time .ensures, c .if1 .left)
+returns-2 c = rw (not-time (c .before .args .i) (c .match .keys2))
 
 pub sends-spec : {M : Type 1} → statement M
-sends-spec = tie.close (tie.spec (λ c κs. search needs) (λ c κs. search needs) (λ c κs. search needs) returns returns-2)
+sends-spec = tie.close (tie.spec (λ c. search needs) (λ c κs. search needs) (λ c κs. search needs) returns returns-2)

@@ -18,7 +18,7 @@ unfolding startIn starts moved
 start-moves g x y z n = go (cannotStart (seenGuest g))
   where
     go : (b : Bool) → inPlace (pick b (quiet (withReg g z 0)) (inTable (pushed usedOp (g .table) (nextOp g)) (starts g x y z))) n (suc (g .done))
-      ≡ moved n (pick b (quiet (withReg g z 0)) (inTable (pushed usedOp (g .table) (nextOp g)) (starts g x y z)))
+        ≡ moved n (pick b (quiet (withReg g z 0)) (inTable (pushed usedOp (g .table) (nextOp g)) (starts g x y z)))
     go true = refl
     go false = refl
 

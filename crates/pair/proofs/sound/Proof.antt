@@ -12,8 +12,8 @@ use Rattle.pair.proofs.sound.Tie as tie
 
 -- the answer, and what its truth gives
 answer : (s : Pair) (r : Bool) → r ≡ soundPair s → (r ≡ true → s .p ≡ laidCard (seenCard (s .p))) → (r ≡ true → s .b ≡ laidCard (seenCard (s .b)))
-  → (r ≡ true → s .link ≡ padded 58 zeroMessage (entries usedMessage (s .link))) → (r ≡ true → s .inbox ≡ padded 128 zeroMessage (entries usedMessage (s .inbox)))
-  → (r ≡ soundPair s) × (r ≡ true → s ≡ laid (seen s))
+    → (r ≡ true → s .link ≡ padded 58 zeroMessage (entries usedMessage (s .link))) → (r ≡ true → s .inbox ≡ padded 128 zeroMessage (entries usedMessage (s .inbox)))
+    → (r ≡ soundPair s) × (r ≡ true → s ≡ laid (seen s))
 unfolding laid seen
 answer s r is p b k i =
     (is, λ h. λ t. record { p = p h t; phase = s .phase; b = b h t; role = s .role; detected = s .detected; limit = s .limit; count = s .count; link = k h t; acks = s .acks; inbox = i h t })
@@ -30,7 +30,7 @@ middle a b c d e f g h t =
     (and-true a b (t₆ .0) .1, t₆ .1, t₅ .1, t₄ .1)
 
 returns : tie.Need-returns
-returns c = 
+returns c =
     let s = c .before .before .before .before .before .before .before .before .before .before .before .before .before .before .before .before .before .args .pair in
     let m = middle (c .before .before .before .before .before .before .before .before .before .sound-limits .result) (c .before .before .before .before .before .before .before .before .sound-card .result) (c .before .before .before .before .before .before .before .sound-card2 .result) (c .before .before .before .before .before .before .sound-link .result) (c .before .before .before .before .before .sound-inbox .result) (leb (c .before .before .before .before .count2 .result) 128) (c .before .few .result) (c .sound-turns .result) in
     answer s (c .before .before .before .before .before .before .before .before .before .sound-limits .result && c .before .before .before .before .before .before .before .before .sound-card .result && c .before .before .before .before .before .before .before .sound-card2 .result && c .before .before .before .before .before .before .sound-link .result && c .before .before .before .before .before .sound-inbox .result && leb (c .before .before .before .before .count2 .result) 128 && c .before .few .result && c .sound-turns .result)

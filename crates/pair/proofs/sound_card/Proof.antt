@@ -15,8 +15,8 @@ use Rattle.pair.proofs.sound_card.Tie as tie
 
 -- the answer, and what its truth gives
 answer : (n l : ℕ) (c : Card) (r : Bool) → r ≡ tightCard c && soundCard n l (seenCard c)
-  → (r ≡ true → c .guest ≡ laidGuest (seenGuest (c .guest))) → (r ≡ true → c .buffer ≡ padded 16 zeroInterrupt (entries usedInterrupt (c .buffer)))
-  → (r ≡ tightCard c && soundCard n l (seenCard c)) × (r ≡ true → c ≡ laidCard (seenCard c))
+    → (r ≡ true → c .guest ≡ laidGuest (seenGuest (c .guest))) → (r ≡ true → c .buffer ≡ padded 16 zeroInterrupt (entries usedInterrupt (c .buffer)))
+    → (r ≡ tightCard c && soundCard n l (seenCard c)) × (r ≡ true → c ≡ laidCard (seenCard c))
 unfolding laidCard seenCard
 answer n l c r is g b = (is, λ h. λ k. record { guest = g h k; epoch = c .epoch; buffer = b h k })
 
@@ -25,7 +25,7 @@ first-two : (a b c d : Bool) → a && b && c && d ≡ true → (a ≡ true) × (
 first-two a b c d h = and-true a b (and-true (a && b) c (and-true (a && b && c) d h .0) .0)
 
 returns : tie.Need-returns
-returns c = 
+returns c =
     let s = c .before .before .before .before .before .before .before in
     let two = first-two (c .before .before .before .sound-guest .result) (c .before .before .sound-slots .result) (c .before .tabled .result) (c .once .result) in
     answer (s .args .n) (s .args .l) (s .args .c) (c .before .before .before .sound-guest .result && c .before .before .sound-slots .result && c .before .tabled .result && c .once .result)

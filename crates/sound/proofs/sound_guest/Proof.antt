@@ -25,7 +25,7 @@ unfolding soundInMemory
 found n l g t q r e = (e, λ h. laid-seen g t q (and-true (tightGuest g) (soundGuest n l (seenGuest g)) (sym e ∙ h) .0))
 
 returns : tie.Need-returns
-returns c = 
+returns c =
     let s = c .before .before .before .before .before .before .before .before .before .before .before .before .before .before .before in
     found (s .args .n) (s .args .l) (s .args .g) (table-slots s) (queue-slots s) _
     (rw (c .rising .ensures, c .before .sound-queue .ensures, c .before .before .tight-table .ensures, c .before .before .before .devices .ensures .0, c .before .before .before .before .count .ensures .0, c .before .before .before .before .before .timers .ensures .0) (sound-parts (s .args .n) (s .args .l) (s .args .g)))

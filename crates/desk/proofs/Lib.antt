@@ -1,0 +1,3 @@
+pub mod Going
+pub mod Counting
+pub mod Exact

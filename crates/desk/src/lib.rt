@@ -1,0 +1,3 @@
+// What the programs at the test bench do.
+pub mod bench;
+pub mod print;

@@ -1,0 +1,6 @@
+pub mod Header
+pub mod Reading
+pub mod Writing
+pub mod RoundTrips
+pub mod Exact
+pub mod Example

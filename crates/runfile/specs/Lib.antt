@@ -1,0 +1,2 @@
+pub mod RunFile
+pub mod RoundTrips
