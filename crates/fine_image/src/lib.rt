@@ -5,9 +5,7 @@ ghost use Prim.Native.Nat.{_+_, _*_, _≤_};
 ghost use Rattle.forms.specs.Stored.{array};
 ghost use Rattle.layout.specs.Fields.{interrupt, message, guest, phaseMay};
 ghost use Rattle.layout.specs.Image.{imageLength, header, imageFine};
-
-// "form 1"
-const FORM: u8 = 1;
+use layout::FORM;
 
 // "zero fields 0": that of each of n interrupts.
 fn fine_interrupts(s: &[u8], at: usize, n: usize) -> bool

@@ -202,7 +202,7 @@ forgets = record {
   refused = λ code l store why e w. retired-zeros code l store e w;
   fresh = λ code l store e w. (ap (λ (o : Outcome). o .answer) (retired-fresh code l store e w), ap (λ (o : Outcome). o .pair) (retired-fresh code l store e w));
   rest = λ code l store e w. retired-rest code l store e w;
-  length = by-answer;
+  keepsLength = by-answer;
 }
   where
     by-answer : (code : List ℕ) (l : ℕ) (store : List ℕ) (r : Answer) (e : List ℕ) → Retired code l store r e → length e ≡ length store

@@ -46,4 +46,4 @@ pub record Forgets : Type 0 where
       → ((loaded (take imageLength e)) .answer ≡ Taken) × ((loaded (take imageLength e)) .pair ≡ (made (under code l)) .pair)
   pub rest : (code : List ℕ) (l : ℕ) (store : List ℕ) (e : List ℕ) → Retired code l store Taken e → drop imageLength e ≡ zeros (length (drop imageLength store))
   -- the store keeps its length
-  pub length : (code : List ℕ) (l : ℕ) (store : List ℕ) (r : Answer) (e : List ℕ) → Retired code l store r e → length e ≡ length store
+  pub keepsLength : (code : List ℕ) (l : ℕ) (store : List ℕ) (r : Answer) (e : List ℕ) → Retired code l store r e → length e ≡ length store

@@ -4,14 +4,12 @@ ghost use lib.ListN.{length};
 ghost use Rattle.image.specs.Stores.{Fitted, Saved, loaded, zeros, Retired};
 ghost use Rattle.rules.specs.Events.{refused};
 ghost use Rattle.rules.specs.PairSlots.{outcome, zeroPair};
+use layout::IMAGE_LENGTH;
 use rules::Answer;
 use rules::Outcome;
 use rules::Pair;
 use rules::Refusal;
 use rules::Shown;
-
-// "Image, 3,444 bytes"
-const IMAGE_LENGTH: usize = 3444;
 
 // Writes the image of a pair at the front of the buffer where it has room for it; else 9, and nothing is written.
 fn fit(pair: Pair, buf: &mut [u8]) -> Answer

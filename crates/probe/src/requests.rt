@@ -1,6 +1,7 @@
 // Requests, and the lines that answer them, as docs/PROBE.md has them.
 ghost use Rattle.io.specs.Counts.{Counts};
 use desk::print;
+use layout::IMAGE_LENGTH;
 use libc::STDIN_FILENO;
 use libc::STDOUT_FILENO;
 use monitor::step;
@@ -15,9 +16,6 @@ const LONGEST: usize = 40000;
 
 // "After 65,536 requests it ends too"
 const MOST: usize = 65536;
-
-// "Image, 3,444 bytes"
-const IMAGE_LENGTH: usize = 3444;
 
 // A header: the kind, L, and the lengths of the parts A, B and C.
 pub struct Request {

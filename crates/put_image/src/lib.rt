@@ -10,6 +10,7 @@ ghost use Rattle.forms.specs.Stored.{flagNumber};
 ghost use Rattle.layout.specs.Fields.{operation, interrupt, message, front as frontForm, frontOf, guest as guestForm, phaseNumber, roleNumber};
 ghost use Rattle.layout.specs.Image.{imageLength, header as headerForm, headerOf, imageBytes};
 ghost use Rattle.rules.specs.Pair.{clockSent};
+use layout::FORM;
 use rules::Guest;
 use rules::Interrupt;
 use rules::Message;
@@ -17,9 +18,6 @@ use rules::OpNo;
 use rules::Pair;
 use rules::Phase;
 use rules::Role;
-
-// "form 1"
-const FORM: u8 = 1;
 
 // A flag is 0 or 1.
 fn flag(on: bool) -> u8
