@@ -8,10 +8,10 @@ use lib.Dec.{leb}
 use lib.ListN.{drop, length}
 use native.Mathlib.Numerals.{add-one}
 use native.Mathlib.Omega.{arith}
-use Rattle.mail.specs.Mail.{oldest}
-use Rattle.pair.proofs.Goes.{b-again, does-refused, does-taken, inbox-more, p-again}
+use Rattle.link.specs.Oldest.{oldest}
+use Rattle.tidy.proofs.Goes.{b-again, does-refused, does-taken, inbox-more, p-again}
 use Rattle.outcomes.specs.Made.{done}
-use Rattle.pair.specs.Tidy.{Tidy, does}
+use Rattle.tidy.specs.Tidy.{Tidy, does}
 use Rattle.rules.proofs.PairWhole.{at-most-58, buffered, whole}
 use Rattle.rules.specs.Events.{handle, linked, refuse, refused, taken}
 use Rattle.rules.specs.Pair.{acknowledged, halted, isFailed, noticed, received, setupOf}

@@ -2,7 +2,7 @@
 ghost use mathlib.Core.Path.{_≡_};
 ghost use mathlib.Core.List.{[]};
 ghost use Rattle.rules.specs.declared.Event.the-variants.{Link, Ack, Fail, Detect};
-ghost use Rattle.pair.specs.Tidy.{Tidy, does};
+ghost use Rattle.tidy.specs.Tidy.{Tidy, does};
 use rules::Outcome;
 use rules::Pair;
 use rules::Phase;
@@ -16,16 +16,16 @@ pub fn link(pair: Pair) -> Outcome
 {
     let sent = pair.link;
     let inbox = pair.inbox;
-    let in_flight = mail::link::count(sent);
-    let received = mail::inbox::count(inbox);
+    let in_flight = link::count(sent);
+    let received = inbox::count(inbox);
     if in_flight == 0 {
         return outcomes::refused(pair, Refusal::MustWait);
     }
     if 128 <= received {
         return outcomes::refused(pair, Refusal::InboxFull);
     }
-    let left = mail::link::without_oldest(sent);
-    let more = mail::inbox::receive(inbox, mail::link::oldest(sent));
+    let left = link::without_oldest(sent);
+    let more = inbox::receive(inbox, link::oldest(sent));
     let mut next = pair;
     next.link = left;
     // It fits: at most 58 messages are unacknowledged.
@@ -89,7 +89,7 @@ pub fn detect(pair: Pair) -> Outcome
 {
     let phase = pair.phase;
     let sent = pair.link;
-    let in_flight = mail::link::count(sent);
+    let in_flight = link::count(sent);
     if !phases::is_failed(phase) | pair.detected {
         return outcomes::refused(pair, Refusal::OutOfTurn);
     }

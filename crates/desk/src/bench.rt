@@ -7,7 +7,6 @@ ghost use Rattle.runfile.specs.RunFile.{readProgram};
 ghost use Rattle.desk.specs.Bench.{ended, takes, benchStart, benchEnd};
 use crate::print;
 use libc::STDOUT_FILENO;
-use monitor::step;
 use rules::Answer;
 use rules::Outcome;
 use rules::Pair;
@@ -41,7 +40,7 @@ fn show(shown: Shown) {
 fn turn(file: &[u8], pair: Pair, n: usize) -> Outcome
     ensures { λ r. ⌜ r ≡ stepped (readProgram (now (file .entry))) pair (eventAt (now (file .entry)) n) ⌝ }
 {
-    let outcome = step::step(runfile::program(file), pair, reader::read_at(file, n));
+    let outcome = monitor::step(runfile::program(file), pair, reader::read_at(file, n));
     let shown = outcome.shown;
     show(shown);
     outcome

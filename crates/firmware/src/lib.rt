@@ -5,7 +5,6 @@ ghost use Rattle.words.specs.Wrote.{Wrote};
 ghost use Rattle.rules.specs.PairSlots.{answerNumber};
 ghost use Rattle.image.specs.Stores.{loaded, saveLeaves};
 ghost use Rattle.firmware.specs.Firmware.{entryBytes, entryOf, steppedIn, applied, Stepped, SavedFrom, RetiredStore};
-use monitor::step;
 use rules::Answer;
 use rules::OpNo;
 use rules::Outcome;
@@ -47,7 +46,7 @@ fn step_in(room: usize, program: &[u8], pair: Pair, event: &[u8]) -> Outcome
     if room < ENTRY_LENGTH {
         return outcomes::refused(pair, Refusal::TooShort);
     }
-    step::step(program, pair, event)
+    monitor::step(program, pair, event)
 }
 
 // The pair in a store is loaded, and the event applied to it.

@@ -5,11 +5,11 @@ use mathlib.Core.Path.{_∙_, _≡_, ap, refl}
 use Prim.Native.Nat.{ℕ}
 use Rattle.guest.proofs.Laid.{laid-instruction}
 use Rattle.guest.specs.InSlots.{instructionIn}
-use Rattle.mail.proofs.Laws.{word-val}
-use Rattle.mail.specs.Mail.{wordOf}
-use Rattle.pair.proofs.Goes.{b-again, b-fits, buffer-again, does-refused, guest-again, inbox-same}
+use Rattle.inbox.proofs.Laws.{word-val}
+use Rattle.inbox.specs.Words.{wordOf}
+use Rattle.tidy.proofs.Goes.{b-again, b-fits, buffer-again, does-refused, guest-again, inbox-same}
 use Rattle.outcomes.specs.Made.{done}
-use Rattle.pair.specs.Tidy.{Tidy, does}
+use Rattle.tidy.specs.Tidy.{Tidy, does}
 use Rattle.rules.specs.Decode.{fetch, instrOf, isBad}
 use Rattle.rules.specs.Events.{handle, refuse, refused, taken, unread}
 use Rattle.rules.specs.GuestSlots.{laidRan, seenGuest}
@@ -29,7 +29,7 @@ use Rattle.rules.specs.declared.Shown.{Shown}
 use Rattle.rules.specs.declared.Shown.the-variants.{Nothing}
 use Rattle.slots.proofs.Tests.{or-false}
 use Rattle.slots.specs.Slots.{entries, padded, pick}
-use Rattle.follow.proofs.Taken.{taken-on}
+use Rattle.tidy.proofs.Taken.{taken-on}
 
 module _ (code : List ℕ) (s : Pair) (w : ℕ) where
   pub bstep-early : idle s || complete (s .limit) (s .b .guest) ≡ true → outcome s (refused OutOfTurn) ≡ does code s (BStep w)

@@ -5,9 +5,9 @@ use mathlib.Core.Path.{_≡_}
 use Prim.Native.Nat.{_<_}
 use lib.ListN.{length, length-append}
 use native.Mathlib.Omega.{arith}
-use Rattle.pair.proofs.Goes.{b-again, buffer-more, does-refused, does-taken, guest-again, inbox-same, next-fits}
+use Rattle.tidy.proofs.Goes.{b-again, buffer-more, does-refused, does-taken, guest-again, inbox-same, next-fits}
 use Rattle.outcomes.specs.Made.{done}
-use Rattle.pair.specs.Tidy.{Tidy, does}
+use Rattle.tidy.specs.Tidy.{Tidy, does}
 use Rattle.rules.proofs.PairSlots.{Fits}
 use Rattle.rules.specs.Events.{handle, malformed, refuse, refused, taken}
 use Rattle.rules.specs.Guest.{listed, opsOf}
@@ -21,7 +21,7 @@ use Rattle.rules.specs.declared.Pair.{Pair}
 use Rattle.rules.specs.declared.Refusal.the-variants.{UnknownOperation}
 use Rattle.rules.specs.declared.Shown.the-variants.{Nothing}
 use Rattle.slots.specs.Slots.{entries, pushed}
-use Rattle.follow.proofs.Taken.{taken-on}
+use Rattle.tidy.proofs.Taken.{taken-on}
 
 module _ (s : Pair) (i : Interrupt) where
   -- whether the operation is in B's table and not yet buffered, by the two searches in slots

@@ -6,7 +6,7 @@ use Prim.Native.Nat.{_*_, ℕ}
 use borrow.Author.Tests.{not-false}
 use lib.Dec.{eqb}
 use lib.ListN.{length}
-use Rattle.pair.specs.Tidy.{Tidy, does}
+use Rattle.tidy.specs.Tidy.{Tidy, does}
 use Rattle.rules.specs.Bytes.{applyRead, readEvent, stepped}
 use Rattle.rules.specs.Events.{handle, inFront, malformed, refuse, refused}
 use Rattle.rules.specs.GuestSound.{proper}

@@ -8,7 +8,7 @@ ghost use Rattle.slots.specs.Slots.{entries, padded, tight, every};
 ghost use Rattle.rules.specs.Guest.{listed, opsOf};
 ghost use Rattle.rules.specs.GuestSound.{proper};
 ghost use Rattle.rules.specs.GuestSlots.{usedOp, usedInterrupt, zeroInterrupt, isZeroInterrupt};
-ghost use Rattle.rules.specs.Sound.{once as onceOf, soundMessage, extra as extraOf, soundTurns, soundLimits};
+ghost use Rattle.rules.specs.Sound.{once as onceOf, soundMessage, extra as extraOf, soundTurns};
 ghost use Rattle.rules.specs.PairSlots.{usedMessage, zeroMessage, isZeroMessage, seenCard, seen, laidCard, laid as laidOf, tightCard, soundPair};
 ghost use Rattle.pair.specs.Sound.{soundCard, allTabled};
 use rules::Card;
@@ -18,7 +18,6 @@ use rules::Message;
 use rules::OpNo;
 use rules::Pair;
 use rules::Phase;
-use rules::Role;
 
 // A free slot with nothing left in it.
 fn is_zero(m: Message) -> bool
@@ -247,13 +246,13 @@ pub fn sound(pair: Pair) -> bool
     let phase = pair.phase;
     let held = p.buffer;
     let times = p.guest.times;
-    let out = mail::link::count(link) + (pair.acks as usize);
+    let out = link::count(link) + (pair.acks as usize);
     sound_limits(l, n)
         & sound_card(p, n, l)
         & sound_card(b, n, l)
         & sound_link(link)
         & sound_inbox(inbox)
-        & (mail::inbox::count(inbox) <= 128)
+        & (inbox::count(inbox) <= 128)
         & few(out, times, buffer::count(held), extra(phase))
         & sound_turns(pair)
 }

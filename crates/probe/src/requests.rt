@@ -4,7 +4,6 @@ use desk::print;
 use layout::IMAGE_LENGTH;
 use libc::STDIN_FILENO;
 use libc::STDOUT_FILENO;
-use monitor::step;
 use rules::Answer;
 use rules::OpNo;
 use rules::Pair;
@@ -76,7 +75,7 @@ fn apply(image: &[u8], program: &[u8], event: &[u8]) {
         print::line_end();
         return;
     }
-    let outcome = step::step(program, loaded.pair, event);
+    let outcome = monitor::step(program, loaded.pair, event);
     let given = outcome.answer;
     let entry = outcome.shown;
     front(2, answers::number(given));

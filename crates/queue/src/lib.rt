@@ -90,12 +90,8 @@ pub fn oldest(xs: [Interrupt; 17]) -> Interrupt
 pub fn without_oldest(xs: [Interrupt; 17]) -> [Interrupt; 17]
     ensures { λ r. ⌜ r ≡ padded 17 zeroInterrupt (drop 1 (entries usedInterrupt xs)) ⌝ }
 {
-    let free = Interrupt {
-        status: 0,
-        op: OpNo(0),
-        word: 0,
-    };
-    let mut ys = [free; 17];
+    let zero = free();
+    let mut ys = [zero; 17];
     if xs[0].status == 0 {
         return ys;
     }

@@ -1,6 +1,5 @@
 // The resident monitor: the pair stays in its own store.
 ghost use Rattle.resident.specs.Applies.{Applies};
-use monitor::step;
 use rules::Answer;
 use rules::Pair;
 use rules::Shown;
@@ -15,7 +14,7 @@ pub struct Applied {
 pub fn apply(pair: &mut Pair, program: &[u8], event: &[u8]) -> Applied
     ensures { λ r. ⌜ Applies (now (program .entry)) (now (pair .entry)) (now (event .entry)) r (now (pair .exit)) ⌝ }
 {
-    let outcome = step::step(program, *pair, event);
+    let outcome = monitor::step(program, *pair, event);
     *pair = outcome.pair;
     Applied {
         answer: outcome.answer,

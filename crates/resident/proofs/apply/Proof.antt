@@ -51,10 +51,10 @@ use Rattle.resident.proofs.Applied as N
 use Rattle.resident.proofs.Applied.Laws as N′
 use Rattle.rules.proofs.Answer.Laws as A′
 use Rattle.rules.proofs.Shown.Laws as S′
-use Rattle.monitor.proofs.step.step as step
-use Rattle.monitor.proofs.step.step.Symbol as step-def
-use Rattle.monitor.proofs.step.step.Symbol.{name as #step}
-use Rattle.monitor.proofs.step.step.Met as step-thm
+use Rattle.monitor.proofs.step as step
+use Rattle.monitor.proofs.step.Symbol as step-def
+use Rattle.monitor.proofs.step.Symbol.{name as #step}
+use Rattle.monitor.proofs.step.Met as step-thm
 use Rattle.resident.proofs.apply.Key.{name as #apply}
 use Rattle.resident.proofs.apply as f
 use Rattle.resident.proofs.apply.Statement as stated
@@ -190,4 +190,4 @@ apply-spec 𝓤 H 𝓜 𝓖 𝓡 =
     entered 𝓤 H (tripleOf 𝓤 H (𝓖 .A) f.signature (f.spec 𝓤 H (𝓖 .A) (𝓜 .mem) (𝓡 .run)))
     (tables 𝓤 H 𝓜 𝓡 code.env .C) (tables 𝓤 H 𝓜 𝓡 code.env .Λ) #apply code.function (code.unfolded 𝓤 H 𝓜 𝓡)
     (f-meets 𝓤 H (𝓖 .A) (givenOf 𝓤 H 𝓜 𝓖) (𝓜 .mem) (𝓡 .run) (tablesOf 𝓤 H 𝓜 (tables 𝓤 H 𝓜 𝓡 code.env))
-    (cited 𝓤 H (Step 𝓤 H (𝓖 .A) (𝓜 .mem) (𝓡 .run)) 𝓜 𝓡 code.env #step step-def.routine code.calls-monitor·step·step (step-thm.met 𝓤 H 𝓜 𝓖 𝓡)))
+    (cited 𝓤 H (Step 𝓤 H (𝓖 .A) (𝓜 .mem) (𝓡 .run)) 𝓜 𝓡 code.env #step step-def.routine code.calls-monitor·step (step-thm.met 𝓤 H 𝓜 𝓖 𝓡)))
