@@ -18,14 +18,14 @@ const TRIES: usize = 20;
 /// Pairs on which they are tried.
 const LONGEST_SEARCH: usize = 60;
 
-/// The run file of an index; each eighth is one that is bad, or that makes no pair.
+/// The run file of an index; each eighth is one that is bad, or one at the edges.
 pub fn run_file(random: &mut Random, index: usize) -> Vec<u8> {
     match index % 16 {
         7 => {
             let file = run(random, 20, true);
             damaged(random, index / 16 % KINDS_OF_DAMAGE, file)
         }
-        15 => no_pair(random),
+        15 => at_the_edges(random),
         _ => {
             let length = random.pick(&[10, 40, 100, 200, 400, 800, 1_500, 3_000, MOST_EVENTS]);
             let ends_refused = random.chance(65);
@@ -88,8 +88,8 @@ fn refused_with(random: &mut Random, story: &Story, wanted: u8) -> Option<[u8; E
     None
 }
 
-/// Good files of which no pair is made, of the smallest, and of the largest size.
-fn no_pair(random: &mut Random) -> Vec<u8> {
+/// Files of the right form at the edges: L and programs of which no pair is made, the least and the greatest L, no event, the most, and rubbish.
+fn at_the_edges(random: &mut Random) -> Vec<u8> {
     let story = Story::begin(random, 1);
     let event = any_event(random, &story.pair).bytes();
     let (l, program, events) = match random.below(8) {
