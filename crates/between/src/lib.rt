@@ -61,25 +61,7 @@ pub fn fail(pair: Pair) -> Outcome
     if phases::is_failed(was) {
         return outcomes::refused(pair, Refusal::Dead);
     }
-    let p = pair.p;
-    let phase = Phase::Failed;
-    let b = pair.b;
-    let role = pair.role;
-    let link = pair.link;
-    let inbox = pair.inbox;
-    let next = Pair {
-        p,
-        phase,
-        b,
-        role,
-        detected: pair.detected,
-        limit: pair.limit,
-        count: pair.count,
-        link,
-        acks: pair.acks,
-        inbox,
-    };
-    outcomes::taken(next, Shown::Nothing)
+    outcomes::taken(phases::with_phase(pair, Phase::Failed), Shown::Nothing)
 }
 
 // DETECT: "B learns of it". Refused: "not failed, or detected 3; message in flight 4".

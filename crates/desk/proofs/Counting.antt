@@ -1,9 +1,9 @@
 -- Counts of bytes at the start of a buffer, as the library io has them.
 use mathlib.Core.List.{List, _++_}
-use mathlib.Core.Path.{_≡_, sym}
+use mathlib.Core.Path.{sym}
 use Prim.Native.Nat.{ℕ, _≤_}
 use native.Mathlib.Omega.{arith}
-use lib.ListN.{length, length-append, take}
+use lib.ListN.{length, length-append}
 use lib.Seq.{length-take-le}
 use Rattle.io.specs.Counts.{Counts}
 

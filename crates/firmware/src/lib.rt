@@ -3,7 +3,7 @@
 ghost use mathlib.Core.Path.{_≡_};
 ghost use Rattle.words.specs.Wrote.{Wrote};
 ghost use Rattle.rules.specs.PairSlots.{answerNumber};
-ghost use Rattle.image.specs.Stores.{loaded, saveLeaves};
+ghost use Rattle.image.specs.Stores.{loaded};
 ghost use Rattle.firmware.specs.Firmware.{entryBytes, entryOf, steppedIn, applied, Stepped, SavedFrom, RetiredStore};
 use rules::Answer;
 use rules::OpNo;

@@ -19,7 +19,6 @@ use rules::Interrupt;
 use rules::Message;
 use rules::Outcome;
 use rules::Pair;
-use rules::Phase;
 use rules::Refusal;
 use rules::Shown;
 

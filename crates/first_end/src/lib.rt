@@ -5,38 +5,13 @@ ghost use Rattle.rules.specs.declared.Event.the-variants.{PTime, PEnd};
 ghost use Rattle.rules.specs.Instruction.{complete};
 ghost use Rattle.rules.specs.Pair.{clockSent};
 ghost use Rattle.tidy.specs.Tidy.{Tidy, does};
-ghost use Rattle.first_end.specs.Phase.{inPhase};
 use rules::Card;
-use rules::Decoded;
 use rules::EpochNo;
 use rules::Outcome;
 use rules::Pair;
 use rules::Phase;
 use rules::Refusal;
 use rules::Shown;
-
-// The pair with P in another phase.
-fn with_phase(pair: Pair, phase: Phase) -> Pair
-    ensures { λ r. ⌜ r ≡ inPhase pair phase ⌝ }
-{
-    let p = pair.p;
-    let b = pair.b;
-    let role = pair.role;
-    let link = pair.link;
-    let inbox = pair.inbox;
-    Pair {
-        p,
-        phase,
-        b,
-        role,
-        detected: pair.detected,
-        limit: pair.limit,
-        count: pair.count,
-        link,
-        acks: pair.acks,
-        inbox,
-    }
-}
 
 // PTIME: send Tme with the word, keep it as the clock sent, P waits.
 pub fn p_time(pair: Pair, word: u32) -> Outcome
@@ -57,7 +32,10 @@ pub fn p_time(pair: Pair, word: u32) -> Outcome
     let sent = link::send(link, message::worded(3, e, word));
     let mut next = pair;
     next.link = sent;
-    outcomes::taken(with_phase(next, Phase::Waiting(word)), Shown::Nothing)
+    outcomes::taken(
+        phases::with_phase(next, Phase::Waiting(word)),
+        Shown::Nothing,
+    )
 }
 
 // The clock that P has sent, 0 unless it waits.
@@ -108,5 +86,5 @@ pub fn p_end(pair: Pair) -> Outcome
     let mut next = pair;
     next.p = card;
     next.link = sent;
-    outcomes::taken(with_phase(next, Phase::Running), Shown::Nothing)
+    outcomes::taken(phases::with_phase(next, Phase::Running), Shown::Nothing)
 }

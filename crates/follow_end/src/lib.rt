@@ -14,7 +14,6 @@ ghost use Rattle.rules.specs.PairSlots.{outcome as outcomeOf, seen, stored, use
 ghost use Rattle.tidy.specs.Tidy.{Tidy, does};
 ghost use Rattle.follow_end.specs.InSlots.{entersIn};
 use rules::Card;
-use rules::Decoded;
 use rules::EpochNo;
 use rules::Guest;
 use rules::Message;

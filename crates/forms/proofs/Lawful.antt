@@ -1,17 +1,16 @@
 -- A stored form is lawful: what is written is read again and may stand there, and bytes that may stand there are written again as they were.
 -- Each way of putting forms together keeps that, so a layout is lawful as it is built.
-use mathlib.Core.Path.{_≡_, refl, ap, sym, _∙_}
-use mathlib.Core.Bool.{Bool, true, false, _&&_}
+use mathlib.Core.Path.{_≡_, refl}
+use mathlib.Core.Bool.{Bool, true, false}
 use mathlib.Core.List.{List, [], _∷_, _++_}
-use Prim.Native.Nat.{ℕ, zero, suc, _+_, _*_, _≤_, _<_}
+use Prim.Native.Nat.{ℕ, zero, suc, _+_, _*_, _<_}
 use native.Mathlib.Omega.{arith}
 use native.Mathlib.Nat.{le-of-suc-le-suc, eq-or-lt-of-le, suc-mul, add-comm, zero-mul, add-zero, add-assoc}
 use mathlib.Core.Logic.{⊎-elim}
-use borrow.Author.Tests.{eqb-true, eq-eqb, ltb-true, lt-ltb}
+use borrow.Author.Tests.{eqb-true, eq-eqb, ltb-true}
 use lib.Dec.{eqb, ltb}
 use lib.ListN.{length}
 use Rattle.slots.proofs.Tests.{and-true, both}
-use Rattle.words.specs.Numbers.{Bytes}
 use Rattle.words.specs.Arrays.{each}
 use Rattle.forms.proofs.Part.{part, part-front, part-back}
 use Rattle.forms.proofs.Form.{Form, AnyThing, via}

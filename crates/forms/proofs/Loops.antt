@@ -1,5 +1,5 @@
 -- What a loop keeps that goes over the n slots of an array: one that writes them, one that fills them from bytes, one that tests the bytes of each.
-use mathlib.Core.Path.{_≡_, refl, ap, sym, _∙_}
+use mathlib.Core.Path.{_≡_, refl, sym, _∙_}
 use mathlib.Core.Bool.{Bool, true, false, _&&_}
 use mathlib.Core.List.{List}
 use mathlib.Core.Logic.{⊎-elim}

@@ -1,13 +1,13 @@
 -- Which bytes of an image are tested: every number may stand where it stands, so only the form, the flags, the phases and the zero fields are left.
-use mathlib.Core.Path.{_≡_, refl, ap, _∙_}
+use mathlib.Core.Path.{_≡_, refl}
 use mathlib.Core.Bool.{Bool, true, false, _&&_}
 use mathlib.Core.List.{List}
 use Prim.Native.Nat.{ℕ, zero, suc, _+_}
 use lib.Dec.{eqb, leb, ltb}
-use Rattle.words.specs.Numbers.{at8, at16, at32}
-use Rattle.forms.specs.Stored.{word, array, all}
-use Rattle.layout.specs.Fields.{operation, interrupt, message, front, guest, phaseMay}
-use Rattle.layout.specs.Image.{imageForm, header, image, imageFine}
+use Rattle.words.specs.Numbers.{at8, at16}
+use Rattle.forms.specs.Stored.{array, all}
+use Rattle.layout.specs.Fields.{interrupt, message, guest}
+use Rattle.layout.specs.Image.{imageForm, header}
 
 and-yes : (b : Bool) → b && true ≡ b
 and-yes true = refl

@@ -1,6 +1,8 @@
-// Which phase a card is in.
+// Which phase a card is in, and the pair with P in another.
 ghost use mathlib.Core.Path.{_≡_};
 ghost use Rattle.rules.specs.Pair.{isFailed, isWaiting, isFollowing, isPromoted};
+ghost use Rattle.phases.specs.Phase.{inPhase};
+use rules::Pair;
 use rules::Phase;
 use rules::Role;
 
@@ -45,5 +47,28 @@ pub fn is_promoted(role: Role) -> bool
         Role::Following => false,
         Role::Failover => false,
         Role::Promoted => true,
+    }
+}
+
+// The pair with P in another phase.
+pub fn with_phase(pair: Pair, phase: Phase) -> Pair
+    ensures { λ r. ⌜ r ≡ inPhase pair phase ⌝ }
+{
+    let p = pair.p;
+    let b = pair.b;
+    let role = pair.role;
+    let link = pair.link;
+    let inbox = pair.inbox;
+    Pair {
+        p,
+        phase,
+        b,
+        role,
+        detected: pair.detected,
+        limit: pair.limit,
+        count: pair.count,
+        link,
+        acks: pair.acks,
+        inbox,
     }
 }

@@ -4,7 +4,6 @@ use desk::print;
 use layout::IMAGE_LENGTH;
 use libc::STDIN_FILENO;
 use libc::STDOUT_FILENO;
-use rules::Answer;
 use rules::OpNo;
 use rules::Pair;
 use rules::RecordEntry;

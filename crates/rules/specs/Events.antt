@@ -1,19 +1,17 @@
 -- One event: refused, or the next pair and what the devices are shown.
 use mathlib.Core.Bool.{Bool, true, false, not, _&&_, _||_}
 use mathlib.Core.List.{List, [], _∷_}
-use Prim.Native.Nat.{ℕ, _+_, _*_}
+use Prim.Native.Nat.{ℕ, _*_}
 use lib.ListN.{length}
 use lib.Dec.{leb, eqb}
 use Rattle.slots.specs.Slots.{pick}
-use Rattle.rules.specs.declared.Interrupt.{Interrupt}
 use Rattle.rules.specs.declared.Guest.{Guest}
 use Rattle.rules.specs.declared.Shown.{Shown}
-use Rattle.rules.specs.declared.Shown.the-variants.{Nothing, Entry}
+use Rattle.rules.specs.declared.Shown.the-variants.{Nothing}
 use Rattle.rules.specs.declared.Ran.{Ran}
 use Rattle.rules.specs.declared.EpochNo.{EpochNo}
 use Rattle.rules.specs.declared.Message.{Message}
-use Rattle.rules.specs.declared.Phase.{Phase}
-use Rattle.rules.specs.declared.Phase.the-variants.{Running, Waiting, Failed}
+use Rattle.rules.specs.declared.Phase.the-variants.{Running, Waiting}
 use Rattle.rules.specs.declared.Role.{Role}
 use Rattle.rules.specs.declared.Role.the-variants.{Following, Failover, Promoted}
 use Rattle.rules.specs.declared.Card.{Card}

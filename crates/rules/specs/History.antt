@@ -1,7 +1,6 @@
 -- A history: the pair, the devices' record, and each card's guest on entry to its epochs 1, 2, 3, ..
 use mathlib.Core.Option.{Option, none, some}
 use mathlib.Core.List.{List, [], _∷_, _++_, map}
-use Prim.Native.Nat.{ℕ}
 use lib.Dec.{eqb}
 use Rattle.rules.specs.declared.Guest.{Guest}
 use Rattle.rules.specs.declared.RecordEntry.{RecordEntry}

@@ -8,8 +8,6 @@ use Rattle.slots.specs.Slots.{pick, count}
 use Rattle.rules.specs.declared.OpNo.{OpNo}
 use Rattle.rules.specs.declared.Interrupt.{Interrupt}
 use Rattle.rules.specs.declared.Guest.{Guest}
-use Rattle.rules.specs.declared.RecordEntry.{RecordEntry}
-use Rattle.rules.specs.declared.Shown.{Shown}
 use Rattle.rules.specs.declared.Shown.the-variants.{Nothing, Entry}
 use Rattle.rules.specs.declared.Ran.{Ran}
 use Rattle.rules.specs.declared.Instr.{Instr}

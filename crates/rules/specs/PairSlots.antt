@@ -1,5 +1,5 @@
 -- The pair in memory: arrays that are filled from the front. The model is the same record with the free slots left out.
-use mathlib.Core.Bool.{Bool, true, false, not, _&&_}
+use mathlib.Core.Bool.{Bool, false, not, _&&_}
 use mathlib.Core.List.{List, []}
 use Prim.Native.Nat.{ℕ}
 use lib.Dec.{eqb}

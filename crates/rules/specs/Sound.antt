@@ -1,5 +1,5 @@
 -- Sound, of the pair without its free slots. That phases and flags are in range, and a number is at most 65,535, is said by the types.
-use mathlib.Core.Bool.{Bool, true, false, not, _&&_, _||_}
+use mathlib.Core.Bool.{Bool, true, not, _&&_, _||_}
 use mathlib.Core.List.{List, [], _∷_}
 use Prim.Native.Nat.{ℕ, _+_}
 use lib.ListN.{length}

@@ -1,12 +1,12 @@
 -- Laws of keep, without, any, every and folded, over the element and the test.
-use mathlib.Core.Path.{_≡_, refl, sym, ap, _∙_}
-use mathlib.Core.Bool.{Bool, true, false, not, _&&_, _||_, false≢true}
+use mathlib.Core.Path.{_≡_, refl, ap, _∙_}
+use mathlib.Core.Bool.{Bool, true, false, not, _||_, false≢true}
 use mathlib.Core.List.{List, [], _∷_, _++_, map}
-use Prim.Native.Nat.{ℕ, suc, _+_, _≤_, zero-le, suc-le-suc}
+use Prim.Native.Nat.{suc, _+_, _≤_, zero-le, suc-le-suc}
 use native.Mathlib.Omega.{arith}
 use lib.ListN.{length}
 use Rattle.slots.specs.Slots.{pick, keep, without, any, every, count, folded}
-use Rattle.slots.proofs.Tests.{and-true, both}
+use Rattle.slots.proofs.Tests.{and-true}
 
 -- ---- one element
 

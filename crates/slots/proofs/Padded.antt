@@ -1,12 +1,12 @@
 -- Between a list and its slots: what is laid out is seen again, and slots that are tight are what they hold, laid out.
-use mathlib.Core.Path.{_≡_, refl, sym, ap, ap₂, _∙_}
-use mathlib.Core.Bool.{Bool, true, false, not}
+use mathlib.Core.Path.{_≡_, refl, ap, ap₂, _∙_}
+use mathlib.Core.Bool.{Bool, true, false}
 use mathlib.Core.List.{List, [], _∷_, _++_}
-use Prim.Native.Nat.{ℕ, zero, suc, _≤_, _<_, zero-le}
+use Prim.Native.Nat.{ℕ, zero, suc, _≤_, _<_}
 use native.Mathlib.Nat.{le-of-suc-le-suc, not-suc-le-zero, le-of-lt}
 use lib.ListN.{length, drop, set, replicate}
 use Rattle.slots.specs.Slots.{pick, entries, padded, pushed, every, tight}
-use Rattle.slots.proofs.Lists.{every-nil, every-in, every-head}
+use Rattle.slots.proofs.Lists.{every-head}
 
 module _ {A : Type 0} (z : A) where
   pub length-padded : (n : ℕ) (ys : List A) → length (padded n z ys) ≡ n

@@ -1,4 +1,7 @@
 -- An event that is taken: from the rule's verdict, and what changes in memory, to the outcome.
+use mathlib.Core.Bool.{false}
+use mathlib.Core.List.{List, [], _∷_}
+use mathlib.Core.Path.{_∙_, _≡_, ap, refl, sym}
 use Prim.Native.Nat.{ℕ}
 use Rattle.outcomes.specs.Made.{done}
 use Rattle.rules.proofs.PairSlots.{Fits}
@@ -15,9 +18,6 @@ use Rattle.rules.specs.declared.Shown.{Shown}
 use Rattle.slots.specs.Slots.{padded, pushed}
 use Rattle.tidy.proofs.Goes.{does-taken, goes-b, goes-p, link-more, link-same, next-fits, room-link}
 use Rattle.tidy.specs.Tidy.{Tidy, does}
-use mathlib.Core.Bool.{false}
-use mathlib.Core.List.{List, [], _∷_}
-use mathlib.Core.Path.{_∙_, _≡_, ap, refl, sym}
 
 -- the pair in memory with another first card and phase, and another link
 abbrev pub pairP : Pair → Card → Phase → List Message → Pair

@@ -1,4 +1,3 @@
-use mathlib.Core.Path.{_∙_}
 use borrow.Author.Needs.{needs}
 use Rattle.rules.specs.PairSlots.{answerNumber}
 use Rattle.answers.proofs.number.Statement.{statement}

@@ -10,7 +10,7 @@ returns c = rw (c .refused .ensures) (fail-dead (c .before .before .before .args
 
 returns-2 : tie.Need-returns-2
 unfolding halted
-returns-2 c = rw (c .taken .ensures) (fail-taken (c .before .before .before .before .before .before .before .args .pair) (c .before .before .before .before .before .before .before .pre) (sym (c .before .before .before .before .before .before .is-failed .ensures) ∙ c .before .before .before .before .before .if1 .left))
+returns-2 c = rw (c .taken .ensures, c .before .with-phase .ensures) (fail-taken (c .before .before .before .before .args .pair) (c .before .before .before .before .pre) (sym (c .before .before .before .is-failed .ensures) ∙ c .before .before .if1 .left))
 
 pub fail-spec : {M : Type 1} → statement M
-fail-spec = tie.close (tie.spec (λ c κs. search needs) (λ c κs. search needs) returns (λ c κs. search needs) returns-2)
+fail-spec = tie.close (tie.spec (λ c κs. search needs) (λ c κs. search needs) returns (λ c κs. search needs) (λ c κs. search needs) returns-2)

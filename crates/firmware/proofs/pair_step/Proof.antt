@@ -1,5 +1,4 @@
 use borrow.Author.Needs.{needs}
-use mathlib.Core.Path.{_∙_, sym}
 use Rattle.firmware.proofs.Outcomes.{step-refused, step-taken}
 use Rattle.firmware.proofs.pair_step.Statement.{statement}
 use Rattle.firmware.proofs.pair_step.Tie as tie
