@@ -1,4 +1,4 @@
-// Decoding an event: any bytes to an event, or "ill formed".
+// Decoding an event: any bytes to an event, or ill formed.
 ghost use mathlib.Core.Path.{_≡_};
 ghost use Rattle.rules.specs.Bytes.{heard as heardOf, eventOf, readEvent};
 ghost use Rattle.rules.specs.Events.{malformed as malformedOf};

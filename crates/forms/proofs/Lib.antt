@@ -6,3 +6,4 @@ pub mod Lawful
 pub mod Stretch
 pub mod Loops
 pub mod Lent
+pub mod Refusing

@@ -54,7 +54,7 @@ fn get_interrupt(s: &[u8], at: usize) -> Interrupt
     Interrupt { status, op, word }
 }
 
-// "kind, status, epoch 2, operation 2, zero 2, word 4"
+// "kind .., status, epoch 2, operation 2, zero 2, word 4"
 fn get_message(s: &[u8], at: usize) -> Message
     requires { ⌜ at + 12 ≤ imageLength ⌝ }
     ensures { λ r. ⌜ r ≡ message .at (now (s .entry)) at ⌝ }

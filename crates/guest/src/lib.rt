@@ -16,7 +16,7 @@ use rules::Ran;
 use rules::RecordEntry;
 use rules::Shown;
 
-// "An epoch is complete after L instructions or its 40th TIME"
+// "An epoch is complete after L instructions .. or its 40th TIME"
 pub fn complete(g: Guest, l: u16) -> bool
     ensures { λ r. ⌜ r ≡ completeOf l g ⌝ }
 {

@@ -3,3 +3,4 @@ pub mod Wiping
 pub mod Promises
 pub mod Cases
 pub mod Exact
+pub mod Refusals

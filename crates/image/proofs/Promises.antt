@@ -14,6 +14,7 @@ use Rattle.forms.specs.Lent.{refusing, whereTaken}
 use Rattle.layout.proofs.Image.{image-at-bytes, image-at-sized, image-bytes-at, image-bytes-fine, image-bytes-length}
 use Rattle.layout.specs.Image.{GuestSized, PairSized, imageAt, imageBytes, imageFine, imageLength, soundImage}
 use Rattle.outcomes.specs.Made.{done}
+use Rattle.rules.proofs.Answers.{is-refused, taken-zero, zero-taken}
 use Rattle.rules.proofs.PairKept.{pair-kept}
 use Rattle.rules.proofs.PairSlots.{sound-laid-pair}
 use Rattle.rules.proofs.PairWhole.{whole-fresh}
@@ -69,10 +70,11 @@ loaded-bytes s z h =
     sym (loaded-taken (imageBytes s) (image-bytes-length s z) (ap not (both (image-bytes-fine s z) (ap soundPair back ∙ h)))) ∙ ap (λ (t : Pair). done t Nothing) back
 
 pub load-of-saved : LoadOfSaved
-load-of-saved s buf e z w =
+load-of-saved s buf r e z v q =
+    let w : Saved s buf Taken e = rw (zero-taken r q) at v in
     let same : take imageLength e ≡ imageBytes s = ap (take imageLength) (saved-bytes s buf e w) ∙ take-at (imageBytes s) (drop imageLength buf) imageLength (image-bytes-length s z) in
     let is : loaded (take imageLength e) ≡ done s Nothing = ap loaded same ∙ loaded-bytes s z (saved-sound s buf e w) in
-    (ap (λ (o : Outcome). o .answer) is, ap (λ (o : Outcome). o .pair) is)
+    (taken-zero (ap (λ (o : Outcome). o .answer) is), ap (λ (o : Outcome). o .pair) is)
 
 -- what an image that is taken is
 module _ (b : List ℕ) (q : (loaded b) .answer ≡ Taken) where
@@ -92,14 +94,15 @@ module _ (b : List ℕ) (q : (loaded b) .answer ≡ Taken) where
 
 pub saved-of-load : SavedOfLoad
 unfolding saveAnswer refusing room
-saved-of-load b buf r e bytes q l w =
+saved-of-load b buf r e bytes z l w =
+    let q = zero-taken ((loaded b) .answer) z in
     let i = taken-is b q in
     let p = taken-pair b q in
     let snd : soundPair ((loaded b) .pair) ≡ true = ap soundPair p ∙ i .2 in
     let yes : r ≡ Taken = w .answer ∙ rw (snd, l) in
     let written = saved-bytes ((loaded b) .pair) buf e (rw yes at w) in
     let none : drop imageLength buf ≡ [] = drop-of-length-le buf {i = imageLength} (omega arith) in
-    (yes, written ∙ ap (λ (t : List ℕ). imageBytes ((loaded b) .pair) ++ t) none ∙ append-nil (imageBytes ((loaded b) .pair)) ∙ ap imageBytes p ∙ image-bytes-at b bytes (i .0) (i .1))
+    (taken-zero yes, written ∙ ap (λ (t : List ℕ). imageBytes ((loaded b) .pair) ++ t) none ∙ append-nil (imageBytes ((loaded b) .pair)) ∙ ap imageBytes p ∙ image-bytes-at b bytes (i .0) (i .1))
 
 -- the lengths that soundness asks for
 in-memory : (s : Pair) → PairSized s → Sized s
@@ -119,14 +122,14 @@ refused-leaves s (taken t o) q = refused-taken (sym q)
 pub accepted : Accepted
 unfolding loaded
 accepted = record {
-  sound = λ b q. ap soundPair (taken-pair b q) ∙ taken-is b q .2;
-  zeroSlots = λ b q. rw (taken-pair b q) (sym (pair-kept .slots (imageAt b) (in-memory (imageAt b) (image-at-sized b)) (taken-is b q .2)));
-  nothing = λ b why q. refused-leaves zeroPair _ q;
+  sound = λ b z. let q = zero-taken ((loaded b) .answer) z in ap soundPair (taken-pair b q) ∙ taken-is b q .2;
+  zeroSlots = λ b z. let q = zero-taken ((loaded b) .answer) z in rw (taken-pair b q) (sym (pair-kept .slots (imageAt b) (in-memory (imageAt b) (image-at-sized b)) (taken-is b q .2)));
+  nothing = λ b q. refused-leaves zeroPair _ (is-refused ((loaded b) .answer) q .1);
 }
 
 pub refused-save : RefusedSave
 unfolding saveLeaves whereTaken
-refused-save s buf why e w = w .leaves ∙ ap (λ (a : Answer). whereTaken a (imageBytes s ++ drop imageLength buf) buf) (sym (w .answer))
+refused-save s buf r e w q = w .leaves ∙ ap (λ (a : Answer). whereTaken a (imageBytes s ++ drop imageLength buf) buf) (sym (w .answer) ∙ is-refused r q .1)
 
 -- ---- retire
 
@@ -199,9 +202,11 @@ module _ (code : List ℕ) (l : ℕ) (store e : List ℕ) {why : Refusal} (w : R
 pub forgets : Forgets
 forgets = record {
   same = λ code l store other r r′ e e′ n p q. (p .answer ∙ ap (retireAnswer (under code l)) n ∙ sym (q .answer), p .leaves ∙ ap (retireLeaves (under code l)) n ∙ sym (q .leaves));
-  refused = λ code l store why e w. retired-zeros code l store e w;
-  fresh = λ code l store e w. (ap (λ (o : Outcome). o .answer) (retired-fresh code l store e w), ap (λ (o : Outcome). o .pair) (retired-fresh code l store e w));
-  rest = λ code l store e w. retired-rest code l store e w;
+  refused = λ code l store r e w q. retired-zeros code l store e (rw (is-refused r q .1) at w);
+  fresh = λ code l store r e w q.
+      let is = retired-fresh code l store e (rw (zero-taken r q) at w) in
+      (taken-zero (ap (λ (o : Outcome). o .answer) is), ap (λ (o : Outcome). o .pair) is);
+  rest = λ code l store r e w q. retired-rest code l store e (rw (zero-taken r q) at w);
   keepsLength = by-answer;
 }
   where

@@ -1,3 +1,4 @@
 pub mod Stores
 pub mod Promises
 pub mod Cases
+pub mod Refusals

@@ -6,44 +6,42 @@ use Prim.Native.Nat.{ℕ}
 use lib.ListN.{length, take, drop}
 use Rattle.words.specs.Numbers.{Bytes}
 use Rattle.layout.specs.Image.{imageLength, PairSized}
-use Rattle.rules.specs.PairSlots.{soundPair, laid, seen, zeroPair, made}
+use Rattle.rules.specs.PairSlots.{answerNumber, soundPair, laid, seen, zeroPair, made}
 use Rattle.rules.specs.Program.{under}
 use Rattle.rules.specs.declared.Answer.{Answer}
-use Rattle.rules.specs.declared.Answer.the-variants.{Taken, Refused}
 use Rattle.rules.specs.declared.Pair.{Pair}
-use Rattle.rules.specs.declared.Refusal.{Refusal}
 use Rattle.image.specs.Stores.{Saved, loaded, Retired, zeros}
 
--- "load of what save wrote is the same pair, for every sound pair"
+-- "Saving a pair and loading it gives the same pair", for every sound pair
 abbrev pub LoadOfSaved : Type 0
-LoadOfSaved = (s : Pair) (buf : List ℕ) (e : List ℕ) → PairSized s → Saved s buf Taken e
-    → ((loaded (take imageLength e)) .answer ≡ Taken) × ((loaded (take imageLength e)) .pair ≡ s)
+LoadOfSaved = (s : Pair) (buf : List ℕ) (r : Answer) (e : List ℕ) → PairSized s → Saved s buf r e → answerNumber r ≡ 0
+    → (answerNumber ((loaded (take imageLength e)) .answer) ≡ 0) × ((loaded (take imageLength e)) .pair ≡ s)
 
--- "saving what was loaded gives the same bytes, for every accepted image"
+-- and saving what was loaded gives the same bytes, for every accepted image
 abbrev pub SavedOfLoad : Type 0
-SavedOfLoad = (b : List ℕ) (buf : List ℕ) (r : Answer) (e : List ℕ) → Bytes b → (loaded b) .answer ≡ Taken → length buf ≡ imageLength → Saved ((loaded b) .pair) buf r e
-    → (r ≡ Taken) × (e ≡ b)
+SavedOfLoad = (b : List ℕ) (buf : List ℕ) (r : Answer) (e : List ℕ) → Bytes b → answerNumber ((loaded b) .answer) ≡ 0 → length buf ≡ imageLength → Saved ((loaded b) .pair) buf r e
+    → (answerNumber r ≡ 0) × (e ≡ b)
 
 -- what is accepted is sound, and every slot not in use is zero; where a load is refused, zeros stand in the pair's place
 pub record Accepted : Type 0 where
-  pub sound : (b : List ℕ) → (loaded b) .answer ≡ Taken → soundPair ((loaded b) .pair) ≡ true
-  pub zeroSlots : (b : List ℕ) → (loaded b) .answer ≡ Taken → laid (seen ((loaded b) .pair)) ≡ (loaded b) .pair
-  pub nothing : (b : List ℕ) (why : Refusal) → (loaded b) .answer ≡ Refused why → (loaded b) .pair ≡ zeroPair
+  pub sound : (b : List ℕ) → answerNumber ((loaded b) .answer) ≡ 0 → soundPair ((loaded b) .pair) ≡ true
+  pub zeroSlots : (b : List ℕ) → answerNumber ((loaded b) .answer) ≡ 0 → laid (seen ((loaded b) .pair)) ≡ (loaded b) .pair
+  pub nothing : (b : List ℕ) → (answerNumber ((loaded b) .answer) ≡ 0 → ⊥) → (loaded b) .pair ≡ zeroPair
 
--- a refused save leaves the buffer as it was
+-- "a refused save or load writes nothing": the buffer stays as it was
 abbrev pub RefusedSave : Type 0
-RefusedSave = (s : Pair) (buf : List ℕ) (why : Refusal) (e : List ℕ) → Saved s buf (Refused why) e → e ≡ buf
+RefusedSave = (s : Pair) (buf : List ℕ) (r : Answer) (e : List ℕ) → Saved s buf r e → (answerNumber r ≡ 0 → ⊥) → e ≡ buf
 
--- "a card that was wiped must remember nothing"
+-- a card that was wiped remembers nothing
 pub record Forgets : Type 0 where
   -- two stores of equal length, with any two contents, are byte for byte the same after retiring
   pub same : (code : List ℕ) (l : ℕ) (store other : List ℕ) (r r′ : Answer) (e e′ : List ℕ) → length store ≡ length other
       → Retired code l store r e → Retired code l other r′ e′ → (r ≡ r′) × (e ≡ e′)
   -- "on both every byte becomes 0"
-  pub refused : (code : List ℕ) (l : ℕ) (store : List ℕ) (why : Refusal) (e : List ℕ) → Retired code l store (Refused why) e → e ≡ zeros (length store)
+  pub refused : (code : List ℕ) (l : ℕ) (store : List ℕ) (r : Answer) (e : List ℕ) → Retired code l store r e → (answerNumber r ≡ 0 → ⊥) → e ≡ zeros (length store)
   -- else what is loaded from the store's front is the fresh pair, and behind it all is zero
-  pub fresh : (code : List ℕ) (l : ℕ) (store : List ℕ) (e : List ℕ) → Retired code l store Taken e
-      → ((loaded (take imageLength e)) .answer ≡ Taken) × ((loaded (take imageLength e)) .pair ≡ (made (under code l)) .pair)
-  pub rest : (code : List ℕ) (l : ℕ) (store : List ℕ) (e : List ℕ) → Retired code l store Taken e → drop imageLength e ≡ zeros (length (drop imageLength store))
+  pub fresh : (code : List ℕ) (l : ℕ) (store : List ℕ) (r : Answer) (e : List ℕ) → Retired code l store r e → answerNumber r ≡ 0
+      → (answerNumber ((loaded (take imageLength e)) .answer) ≡ 0) × ((loaded (take imageLength e)) .pair ≡ (made (under code l)) .pair)
+  pub rest : (code : List ℕ) (l : ℕ) (store : List ℕ) (r : Answer) (e : List ℕ) → Retired code l store r e → answerNumber r ≡ 0 → drop imageLength e ≡ zeros (length (drop imageLength store))
   -- the store keeps its length
   pub keepsLength : (code : List ℕ) (l : ℕ) (store : List ℕ) (r : Answer) (e : List ℕ) → Retired code l store r e → length e ≡ length store

@@ -19,6 +19,7 @@ use Rattle.rules.specs.declared.Role.the-variants.{Following, Failover, Promote
 abbrev pub operation : Stored OpNo
 operation = storedAs half (λ n. record { 0 = n }) (λ o. o .0) any
 
+-- an epoch number
 abbrev pub epoch : Stored EpochNo
 epoch = storedAs half (λ n. record { 0 = n }) (λ e. e .0) any
 
@@ -42,9 +43,11 @@ message =
 abbrev pub Front : Type 0
 Front = ((((ℕ × ℕ) × ℕ) × Bool) × OpNo) × ℕ
 
+-- where they stand
 abbrev pub front : Stored Front
 front = half then half then byte then flag then operation then word
 
+-- a guest's
 abbrev pub frontOf : Guest → Front
 frontOf g = (((((g .pc, g .done), g .times), g .armed), g .last), g .deadline)
 
@@ -73,9 +76,11 @@ phaseNumber Running = 1
 phaseNumber (Waiting c) = 2
 phaseNumber Failed = 3
 
+-- the phase of a number and a clock sent
 unfoldable pub phaseOf : ℕ → ℕ → Phase
 phaseOf n c = pick (eqb n 2) (Waiting c) (pick (eqb n 3) Failed Running)
 
+-- "phases .. in range; .. clock sent 0 unless waiting"
 unfoldable pub phaseMay : ℕ → ℕ → Bool
 phaseMay n c = leb 1 n && leb n 3 && (eqb n 2 || eqb c 0)
 
@@ -85,8 +90,10 @@ roleNumber Following = 1
 roleNumber Failover = 2
 roleNumber Promoted = 3
 
+-- the role of a number
 unfoldable pub roleOf : ℕ → Role
 roleOf n = pick (eqb n 2) Failover (pick (eqb n 3) Promoted Following)
 
+-- the role as it is stored
 abbrev pub role : Stored Role
 role = storedAs byte roleOf roleNumber (λ n. leb 1 n && leb n 3)

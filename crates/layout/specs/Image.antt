@@ -13,23 +13,26 @@ use Rattle.rules.specs.Pair.{clockSent}
 use Rattle.rules.specs.PairSlots.{soundPair}
 use Rattle.layout.specs.Fields.{epoch, interrupt, message, guest, role, phaseNumber, phaseOf, phaseMay}
 
--- "form 1", "Image, 3,444 bytes"
+-- "form 1"
 abbrev pub imageForm : ℕ
 imageForm = 1
 
+-- "Image, 3,444 bytes"
 abbrev pub imageLength : ℕ
 imageLength = 3444
 
--- "Header 20: form 1; P phase; B phase; detected; then L, N, e_p, e_b, acknowledgements in flight, zero, 2 bytes each; then the clock sent, 4"
+-- "Header 20: form 1; P phase ..; B phase ..; detected; then L, N, e_p, e_b, acknowledgements in flight, zero, 2 bytes each; then the clock sent, 4"
 abbrev pub Header : Type 0
 Header = (((((((((Unit {0} × ℕ) × Role) × Bool) × ℕ) × ℕ) × EpochNo) × EpochNo) × ℕ) × Unit {0}) × ℕ
 
+-- where each stands
 abbrev pub header : Stored Header
 header =
     always byte imageForm then byte then role then flag
     then half then half then epoch then epoch then half then always half 0
     then word
 
+-- a pair's
 abbrev pub headerOf : Pair → Header
 headerOf s = (
   (
@@ -73,6 +76,7 @@ image =
     (λ s. ((((((headerOf s, s .p .guest), s .b .guest), s .p .buffer), s .b .buffer), s .link), s .inbox))
     (λ t. let h = t .0 .0 .0 .0 .0 .0 in phaseMay (h .0 .0 .0 .0 .0 .0 .0 .0 .0 .1) (h .1))
 
+-- an image's bytes, and the pair that bytes say
 unfoldable pub imageBytes : Pair → List ℕ
 imageBytes s = image .bytes s
 

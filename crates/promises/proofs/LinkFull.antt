@@ -8,6 +8,7 @@ use lib.Dec.{T, eqb, leb}
 use lib.ListN.{length, take}
 use native.Mathlib.Nat.{le-refl}
 use native.Mathlib.Omega.{arith}
+use Rattle.rules.proofs.Answers.{taken-zero}
 use Rattle.rules.proofs.Choices.{by-cases, clash, or-other, or-true}
 use Rattle.rules.proofs.Decode.{good-setup}
 use Rattle.rules.proofs.Effect.{effect}
@@ -69,11 +70,11 @@ stepped-handled code s bytes ev w l r m =
 
 -- and is taken
 stepped-taken : (code : List ℕ) (s : Pair) (bytes : List ℕ) (ev : Event) (t : Pair) (o : Shown) → Whole s → length code ≡ 4 * s .count → readEvent bytes ≡ WellFormed ev → malformed ev ≡ false → handle (setupOf code s) s ev ≡ taken t o
-    → ((stepped code (laid s) bytes) .answer ≡ Taken) × ((stepped code (laid s) bytes) .pair ≡ laid t)
+    → (answerNumber ((stepped code (laid s) bytes) .answer) ≡ 0) × ((stepped code (laid s) bytes) .pair ≡ laid t)
 unfolding outcome stored
 stepped-taken code s bytes ev t o w l r m q =
     let e = stepped-handled code s bytes ev w l r m ∙ ap (λ (v : Verdict). outcome (laid s) (stored v)) q in
-    (ap (λ (x : Outcome). x .answer) e, ap (λ (x : Outcome). x .pair) e)
+    (taken-zero (ap (λ (x : Outcome). x .answer) e), ap (λ (x : Outcome). x .pair) e)
 
 module _ (code : List ℕ) (l : ℕ) (g : good (under code l) ≡ true) where
   -- B follows, and the end of its next epoch is in the inbox
@@ -202,7 +203,7 @@ full-nearing code l g h t w f ev (linkNoRoom n long) = by-inv (t .inv)
 pub link-full : LinkFull
 unfolding answerNumber number Ends reached-pair
 link-full code l evs bytes q steps a long last b =
-    let x = refusals code (pairAfter code l evs) bytes .inboxFull .0 (ap answerNumber q) in
+    let x = refusals code (pairAfter code l evs) bytes .inboxFull .0 q in
     by-cases (good (under code l))
     (λ g.
     let s : Pair = reached-pair code l evs in

@@ -62,7 +62,6 @@ promises =
       atMost58 = at-most;
       linkFull = link-full;
       noneInFront = none-in-front;
-      oneOutcome = λ code s bytes x y p q. p ∙ sym q;
       refusals = refusals;
       setUps = set-ups;
       model =

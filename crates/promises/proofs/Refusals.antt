@@ -8,6 +8,7 @@ use borrow.Author.Tests.{eq-eqb, eqb-false, eqb-true, le-leb, leb-true, ne-eqb, 
 use lib.Dec.{eqb, lit≤}
 use lib.ListN.{length}
 use native.Mathlib.Omega.{arith}
+use Rattle.rules.proofs.Answers.{not-zero, one-number}
 use Rattle.rules.proofs.Choices.{and-right, by-cases, clash, nor-other, or-other, or-right}
 use Rattle.rules.specs.Bytes.{applyRead, readEvent, stepped}
 use Rattle.rules.specs.Events.{Verdict, ended, handle, inFront, linked, malformed, number, refuse, refused, taken}
@@ -35,28 +36,6 @@ use Rattle.slots.specs.Slots.{pick}
 use Rattle.promises.proofs.Ledger.{no-cons}
 use Rattle.promises.proofs.Runs.{made-bad, made-good}
 use Rattle.promises.specs.Refusals.{At, Broken, Comes, Dying, Formed, Full, MayEnd, Misformed, Refusals, SetUps, Unknown, Untimely, UsedUp, Waits, ackDead, ackNone, bendEarly, bendLast, bendNeither, bintUnknown, bstepBad, bstepDone, bstepIdle, detectAgain, detectEarly, detectInFlight, failDead, linkEmpty, linkNoRoom, pendDead, pendEarly, pendLast, pendUnacknowledged, pintDead, pintUnknown, pstepBad, pstepDead, pstepDone, ptimeAgain, ptimeDead, ptimeEarly}
-
--- ---- numbers
-
-named : ℕ → Refusal
-named n =
-    pick (eqb n 1) Malformed (pick (eqb n 2) Dead (pick (eqb n 3) OutOfTurn (pick (eqb n 4) MustWait (pick (eqb n 5) UnknownOperation
-    (pick (eqb n 6) InboxFull (pick (eqb n 7) EpochsUsedUp (pick (eqb n 8) BadProgram (pick (eqb n 9) TooShort (pick (eqb n 10) BadFile Unsound)))))))))
-
--- a number is one refusal's, and none is 0
-named-number : (why : Refusal) → (named (number why) ≡ why) × (1 ≤ number why)
-unfolding named number
-named-number Malformed = (refl, lit≤ tt)
-named-number Dead = (refl, lit≤ tt)
-named-number OutOfTurn = (refl, lit≤ tt)
-named-number MustWait = (refl, lit≤ tt)
-named-number UnknownOperation = (refl, lit≤ tt)
-named-number InboxFull = (refl, lit≤ tt)
-named-number EpochsUsedUp = (refl, lit≤ tt)
-named-number BadProgram = (refl, lit≤ tt)
-named-number TooShort = (refl, lit≤ tt)
-named-number BadFile = (refl, lit≤ tt)
-named-number Unsound = (refl, lit≤ tt)
 
 -- ---- why a verdict refuses
 
@@ -295,8 +274,8 @@ module _ (code : List ℕ) (s : Pair) (bytes : List ℕ) where
 
   pub answered : (v : Verdict) (why : Refusal) → answerNumber ((outcome s v) .answer) ≡ number why → v ≡ refused why
   unfolding outcome answerNumber
-  answered (refused w) why q = ap {B = Verdict} refused (sym (named-number w .0) ∙ ap named q ∙ named-number why .0)
-  answered (taken t o) why q = absurd (let k = named-number why .1 in omega arith)
+  answered (refused w) why q = ap {B = Verdict} refused (one-number w why q)
+  answered (taken t o) why q = absurd (let k = not-zero why in omega arith)
 
   iff : (why : Refusal) → answerNumber ((stepped code s bytes) .answer) ≡ number why ↔ Situation why
   unfolding stepped outcome answerNumber

@@ -7,6 +7,7 @@ use Prim.Native.Nat.{_*_, _<_, _≤_, ℕ}
 use lib.Dec.{T, lit≤}
 use lib.ListN.{length}
 use native.Mathlib.Omega.{arith}
+use Rattle.rules.proofs.Answers.{taken-zero, zero-taken}
 use Rattle.rules.proofs.Choices.{by-cases, clash}
 use Rattle.rules.proofs.Decode.{good-setup}
 use Rattle.rules.proofs.PairKept.{sound-apply, sound-step, whole-handle}
@@ -74,8 +75,8 @@ unfolding zeroPair seen laid seenCard laidCard seenGuest laidGuest fresh padded 
 zero-laid = refl
 
 -- what is taken was set up under a good program
-taken-good : (S : Setup) → (made S) .answer ≡ Taken → good S ≡ true
-taken-good S q = by-cases (good S) (λ g. g) (λ b. absurd (let z : _≡_ {A = ℕ} 0 1 = cc (q, ap (λ (o : Outcome). o .answer) (made-bad S b)) in omega arith))
+taken-good : (S : Setup) → answerNumber ((made S) .answer) ≡ 0 → good S ≡ true
+taken-good S q = by-cases (good S) (λ g. g) (λ b. absurd (let z : _≡_ {A = ℕ} 0 1 = cc (zero-taken ((made S) .answer) q, ap (λ (o : Outcome). o .answer) (made-bad S b)) in omega arith))
 
 -- ---- demand 1
 
@@ -95,9 +96,9 @@ soundness =
           (λ b. let z = zero-after code l evs b in ap (λ (s : Pair). laid (seen s)) z ∙ zero-laid ∙ sym z);
       accepted = λ s z h. sym (laid-seen-pair s z (sound-tight s h));
       fits = λ code s ev m o h f q. seen-laid-pair m (whole-fits m (if-verdict (λ t o. Whole t) _ m o (whole-seen code s ev h f) q));
-      refused = λ code s bytes why.
-          if-stepped (λ (x : Outcome). x .answer ≡ Refused why → (x .pair ≡ s) × (x .shown ≡ Nothing)) code s bytes (λ _ _. (refl, refl))
-          λ ev _. if-any _ (λ t o q. absurd (let z : _≡_ {A = ℕ} 0 1 = cc in omega arith)) (apply code s ev);
+      refused = λ code s bytes.
+          if-stepped (λ (x : Outcome). (answerNumber (x .answer) ≡ 0 → ⊥) → (x .pair ≡ s) × (x .shown ≡ Nothing)) code s bytes (λ _ _. (refl, refl))
+          λ ev _. if-any _ (λ t o q. absurd (q (taken-zero refl))) (apply code s ev);
     }
 
 -- ---- what runs never come to
@@ -120,7 +121,7 @@ not-broken S s ev g e w (bstepBad v a c d) = clash d (rw e (good-setup S g .runs
 
 pub none-in-front : NoneInFront
 unfolding answerNumber setupOf laid under
-none-in-front code l q evs bytes why a = (λ n. never-8 (refusals code s bytes .badProgram .0 (ap answerNumber a ∙ n)), λ n. clash is-sound (refusals code s bytes .unsound .0 (ap answerNumber a ∙ n) .1))
+none-in-front code l q evs bytes = (λ n. never-8 (refusals code s bytes .badProgram .0 n), λ n. clash is-sound (refusals code s bytes .unsound .0 n .1))
   where
     s : Pair
     s = pairAfter code l evs

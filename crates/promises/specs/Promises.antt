@@ -9,14 +9,14 @@ use Prim.Native.Nat.{_≤_, ℕ}
 use lib.Dec.{eqb}
 use lib.ListN.{getD, length, take}
 use Rattle.rules.specs.Bytes.{readEvent, stepped}
-use Rattle.rules.specs.Events.{handle, malformed, number, step, taken}
+use Rattle.rules.specs.Events.{handle, malformed, step, taken}
 use Rattle.rules.specs.GuestSlots.{laidGuest, zeroInterrupt}
 use Rattle.rules.specs.History.{History, freshHistory, freshStored, laidHistory, noted, recorded, run, runStored}
 use Rattle.rules.specs.Lone.{Lone, LoneStep, freshLone, loneSteps}
 use Rattle.rules.specs.Messages.{only}
 use Rattle.rules.specs.Pair.{isFailed, isPromoted, setupOf}
 use Rattle.rules.specs.PairKept.{Sized}
-use Rattle.rules.specs.PairSlots.{apply, laid, made, seen, soundPair, stored}
+use Rattle.rules.specs.PairSlots.{answerNumber, apply, laid, made, seen, soundPair, stored}
 use Rattle.rules.specs.Program.{Setup, under}
 use Rattle.rules.specs.Sound.{sound, unacknowledged}
 use Rattle.rules.specs.declared.Answer.{Answer}
@@ -29,8 +29,6 @@ use Rattle.rules.specs.declared.Outcome.{Outcome}
 use Rattle.rules.specs.declared.Pair.{Pair}
 use Rattle.rules.specs.declared.Reading.the-variants.{WellFormed}
 use Rattle.rules.specs.declared.RecordEntry.{RecordEntry}
-use Rattle.rules.specs.declared.Refusal.{Refusal}
-use Rattle.rules.specs.declared.Refusal.the-variants.{InboxFull}
 use Rattle.rules.specs.declared.Shown.{Shown}
 use Rattle.rules.specs.declared.Shown.the-variants.{Entry, Nothing}
 use Rattle.slots.specs.Slots.{folded, padded}
@@ -38,6 +36,7 @@ use Rattle.promises.specs.Refusals.{Refusals, SetUps}
 
 -- ---- runs
 
+-- the answer is 0
 unfoldable pub isTaken : Answer → Bool
 isTaken Taken = true
 isTaken (Refused why) = false
@@ -62,6 +61,7 @@ opened code l =
 unfoldable pub ran : List ℕ → ℕ → List (List ℕ) → History
 ran code l evs = folded (λ (h : History) (bytes : List ℕ). grown (getD bytes 0 0) h (stepped code (h .pair) bytes)) (opened code l) evs
 
+-- the pair that they leave
 abbrev pub pairAfter : List ℕ → ℕ → List (List ℕ) → Pair
 pairAfter code l evs = (ran code l evs) .pair
 
@@ -104,9 +104,10 @@ pub record NeverTwo : Type 0 where
 
 -- ---- demand 1: "Total, and never trusting."
 
+-- what is made is sound and stays so; what is refused changes nothing
 pub record Soundness : Type 0 where
   -- a pair that is made is sound; and every event, whatever its bytes and the program's, leaves a sound pair sound
-  pub fresh : (code : List ℕ) (l : ℕ) → (made (under code l)) .answer ≡ Taken → soundPair ((made (under code l)) .pair) ≡ true
+  pub fresh : (code : List ℕ) (l : ℕ) → answerNumber ((made (under code l)) .answer) ≡ 0 → soundPair ((made (under code l)) .pair) ≡ true
   pub kept : (code : List ℕ) (s : Pair) (bytes : List ℕ) → soundPair s ≡ true → soundPair ((stepped code s bytes) .pair) ≡ true
   -- "Every slot not in use is zero at all times in a pair that the monitor makes or accepts."
   pub zeroSlots : (code : List ℕ) (l : ℕ) (evs : List (List ℕ)) → laid (seen (pairAfter code l evs)) ≡ pairAfter code l evs
@@ -114,7 +115,7 @@ pub record Soundness : Type 0 where
   -- nothing that an event adds is cut off: the pair that it leaves fits its slots
   pub fits : (code : List ℕ) (s : Pair) (ev : Event) (m : Pair) (o : Shown) → soundPair s ≡ true → malformed ev ≡ false → handle (setupOf code s) (seen s) ev ≡ taken m o → seen (laid m) ≡ m
   -- "A refused event hands the pair back as it came", and shows nothing: any pair, any bytes, any program
-  pub refused : (code : List ℕ) (s : Pair) (bytes : List ℕ) (why : Refusal) → (stepped code s bytes) .answer ≡ Refused why → ((stepped code s bytes) .pair ≡ s) × ((stepped code s bytes) .shown ≡ Nothing)
+  pub refused : (code : List ℕ) (s : Pair) (bytes : List ℕ) → (answerNumber ((stepped code s bytes) .answer) ≡ 0 → ⊥) → ((stepped code s bytes) .pair ≡ s) × ((stepped code s bytes) .shown ≡ Nothing)
 
 -- ---- 01's other claims
 
@@ -126,9 +127,11 @@ AtMost58 = (code : List ℕ) (l : ℕ) (evs : List (List ℕ)) → unacknowledge
 abbrev pub IsBStep : List ℕ → Type 0
 IsBStep bytes = (w : ℕ) × (readEvent bytes ≡ WellFormed (BStep w))
 
+-- the bytes of a BEND
 abbrev pub IsBEnd : List ℕ → Type 0
 IsBEnd bytes = (w : ℕ) × (readEvent bytes ≡ WellFormed (BEnd w))
 
+-- each of them is a BSTEP
 abbrev pub AllBSteps : List (List ℕ) → Type 0
 AllBSteps [] = Unit
 AllBSteps (bytes ∷ evs) = IsBStep bytes × AllBSteps evs
@@ -136,27 +139,24 @@ AllBSteps (bytes ∷ evs) = IsBStep bytes × AllBSteps evs
 -- all events of a list are taken, one after the other
 abbrev pub Takes : List ℕ → Pair → List (List ℕ) → Type 0
 Takes code s [] = Unit
-Takes code s (bytes ∷ evs) = ((stepped code s bytes) .answer ≡ Taken) × Takes code ((stepped code s bytes) .pair) evs
+Takes code s (bytes ∷ evs) = (answerNumber ((stepped code s bytes) .answer) ≡ 0) × Takes code ((stepped code s bytes) .pair) evs
 
 -- "From a fresh pair under one unchanged program, LINK is refused with 6 only if, after at most L BSTEPs, a BEND will be taken", whatever the words
 abbrev pub LinkFull : Type 0
 LinkFull =
-    (code : List ℕ) (l : ℕ) (evs : List (List ℕ)) (bytes : List ℕ) → (stepped code (pairAfter code l evs) bytes) .answer ≡ Refused InboxFull
+    (code : List ℕ) (l : ℕ) (evs : List (List ℕ)) (bytes : List ℕ) → answerNumber ((stepped code (pairAfter code l evs) bytes) .answer) ≡ 6
     → (steps : List (List ℕ)) → AllBSteps steps → length steps ≡ l → (turn : List ℕ) → IsBEnd turn
     → (k : ℕ) × (k ≤ l) × Takes code (pairAfter code l evs) (take k steps ++ (turn ∷ []))
 
 -- From a fresh pair under one unchanged program no event is answered 8 or 11: what is promised of runs is not empty
 abbrev pub NoneInFront : Type 0
 NoneInFront =
-    (code : List ℕ) (l : ℕ) → (made (under code l)) .answer ≡ Taken → (evs : List (List ℕ)) (bytes : List ℕ) (why : Refusal) → (stepped code (pairAfter code l evs) bytes) .answer ≡ Refused why
-    → (number why ≡ 8 → ⊥) × (number why ≡ 11 → ⊥)
-
--- "a proof shows that no second outcome would satisfy the contract"
-abbrev pub OneOutcome : Type 0
-OneOutcome = (code : List ℕ) (s : Pair) (bytes : List ℕ) (x y : Outcome) → x ≡ stepped code s bytes → y ≡ stepped code s bytes → x ≡ y
+    (code : List ℕ) (l : ℕ) → answerNumber ((made (under code l)) .answer) ≡ 0 → (evs : List (List ℕ)) (bytes : List ℕ)
+    → (answerNumber ((stepped code (pairAfter code l evs) bytes) .answer) ≡ 8 → ⊥) × (answerNumber ((stepped code (pairAfter code l evs) bytes) .answer) ≡ 11 → ⊥)
 
 -- ---- the same over the model: events as they are read, and the pair without its free slots
 
+-- demand 3 and soundness, and that the pair in memory does the same
 pub record Model : Type 0 where
   pub oneCard : (S : Setup) → OneCard S (λ g. g) (λ is. is) (run S (freshHistory S))
   pub soundKept : (code : List ℕ) (s : Pair) (ev : Event) (t : Pair) (o : Shown) → step code s ev ≡ taken t o → sound t ≡ true
@@ -166,6 +166,7 @@ pub record Model : Type 0 where
 
 -- ---- all of it
 
+-- everything that is promised of runs
 pub record Promises : Type 0 where
   pub oneCard : (code : List ℕ) (l : ℕ) → OneCard (under code l) laidGuest (padded 16 zeroInterrupt) (ran code l)
   pub neverTwo : NeverTwo
@@ -173,7 +174,6 @@ pub record Promises : Type 0 where
   pub atMost58 : AtMost58
   pub linkFull : LinkFull
   pub noneInFront : NoneInFront
-  pub oneOutcome : OneOutcome
   pub refusals : (code : List ℕ) (s : Pair) (bytes : List ℕ) → Refusals code s bytes
   pub setUps : (code : List ℕ) (l : ℕ) → SetUps code l
   pub model : Model

@@ -96,6 +96,7 @@ pub data Broken (code : List ℕ) (s : Pair) : Event → Type 0 where
 abbrev pub Misformed : List ℕ → Type 0
 Misformed bytes = (readEvent bytes ≡ IllFormed) ⊎ ((ev : Event) × (readEvent bytes ≡ WellFormed ev) × (malformed ev ≡ true))
 
+-- the bytes say an event that is not malformed
 abbrev pub Formed : List ℕ → Type 0
 Formed bytes = (ev : Event) × (readEvent bytes ≡ WellFormed ev) × (malformed ev ≡ false)
 
@@ -103,6 +104,7 @@ Formed bytes = (ev : Event) × (readEvent bytes ≡ WellFormed ev) × (malformed
 abbrev pub At : List ℕ → Pair → List ℕ → (Event → Type 0) → Type 0
 At code s bytes Situation = (ev : Event) × Comes code s bytes ev × Situation ev
 
+-- each number of an event, and its situation
 pub record Refusals (code : List ℕ) (s : Pair) (bytes : List ℕ) : Type 0 where
   pub malformed : answerNumber ((stepped code s bytes) .answer) ≡ 1 ↔ Misformed bytes
   pub dead : answerNumber ((stepped code s bytes) .answer) ≡ 2 ↔ At code s bytes (Dying (seen s))

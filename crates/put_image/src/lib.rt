@@ -70,7 +70,7 @@ fn put_interrupt(i: Interrupt, buf: &mut [u8], at: usize)
     words::put32(buf, at + 4, i.word);
 }
 
-// "kind, status, epoch 2, operation 2, zero 2, word 4"
+// "kind .., status, epoch 2, operation 2, zero 2, word 4"
 fn put_message(m: Message, buf: &mut [u8], at: usize)
     requires { ⌜ at + 12 ≤ imageLength ⌝ }
     ensures { λ _. ⌜ Wrote (now (buf .entry)) at (message .bytes m) (now (buf .exit)) ⌝ }
@@ -172,7 +172,7 @@ fn put_guest(g: Guest, buf: &mut [u8], at: usize)
     put_queue(queue, buf, at + 332);
 }
 
-// "Header 20: form 1; P phase; B phase; detected; then L, N, e_p, e_b, acknowledgements in flight, zero, 2 bytes each; then the clock sent, 4"
+// "Header 20: form 1; P phase ..; B phase ..; detected; then L, N, e_p, e_b, acknowledgements in flight, zero, 2 bytes each; then the clock sent, 4"
 fn put_header(s: Pair, buf: &mut [u8])
     ensures { λ _. ⌜ Wrote (now (buf .entry)) 0 (headerForm .bytes (headerOf s)) (now (buf .exit)) ⌝ }
 {

@@ -1,4 +1,5 @@
 pub mod Choices
+pub mod Answers
 pub mod Lists
 pub mod Ascending
 pub mod Effect
@@ -7,7 +8,6 @@ pub mod Boundary
 pub mod GuestWhole
 pub mod GuestSlots
 pub mod GuestKept
-pub mod GuestCases
 pub mod Parts
 pub mod Verdicts
 pub mod Operations
@@ -15,4 +15,3 @@ pub mod Messages
 pub mod PairWhole
 pub mod PairSlots
 pub mod PairKept
-pub mod Cases

@@ -10,6 +10,7 @@ use Rattle.rules.specs.declared.Guest.{Guest}
 use Rattle.rules.specs.Guest.{withTable, withQueue, withTimer, withCounts, listed}
 use Rattle.rules.specs.Instruction.{isTimer}
 
+-- another operation than n
 abbrev pub otherOp : OpNo → OpNo → Bool
 otherOp n o = not (eqb (o .0) (n .0))
 
@@ -29,7 +30,7 @@ delivers g is = folded deliver g is
 abbrev pub uncertain : OpNo → Interrupt
 uncertain n = record { status = 2; op = n; word = 0 }
 
--- "an uncertain interrupt for each operation still in the table, ascending (P8)"
+-- "an uncertain interrupt .. for each operation still in the table, ascending (P8)"
 unfoldable pub tellUncertain : Guest → Guest
 tellUncertain g = delivers g (map uncertain (g .table))
 

@@ -15,16 +15,19 @@ unfoldable pub allow : Bool → Instr → Decoded
 allow true i = Good i
 allow false i = Bad
 
--- "registers below 8", "unused bytes 0": none of x, y, z is used; x; x and y; all three
+-- "registers below 8", "unused bytes 0": none of x, y, z is used
 abbrev pub none : ℕ → ℕ → ℕ → Bool
 none x y z = eqb x 0 && eqb y 0 && eqb z 0
 
+-- x alone is a register
 abbrev pub one : ℕ → ℕ → ℕ → Bool
 one x y z = ltb x 8 && eqb y 0 && eqb z 0
 
+-- x and y are registers
 abbrev pub two : ℕ → ℕ → ℕ → Bool
 two x y z = ltb x 8 && ltb y 8 && eqb z 0
 
+-- all three are registers
 abbrev pub three : ℕ → ℕ → ℕ → Bool
 three x y z = ltb x 8 && ltb y 8 && ltb z 8
 
@@ -50,6 +53,7 @@ unfoldable pub fetch : List ℕ → ℕ → ℕ → Decoded
 fetch code n pc =
     pick (ltb pc n) (decode (getD code (4 * pc) 0) (getD code (4 * pc + 1) 0) (getD code (4 * pc + 2) 0) (getD code (4 * pc + 3) 0) n) Bad
 
+-- not well formed
 unfoldable pub isBad : Decoded → Bool
 isBad (Good i) = false
 isBad Bad = true

@@ -52,6 +52,7 @@ unfoldable pub refuse : Bool → Refusal → Verdict → Verdict
 refuse true why v = refused why
 refuse false why v = v
 
+-- "kind" of an event, 1 to 11
 unfoldable pub kind : Event → ℕ
 kind (PStep w) = 1
 kind (PInt i) = 2
@@ -108,10 +109,11 @@ ended s w Promoted =
     taken (onB s (enters (s .b) (boundary (s .b .buffer) w (s .b .guest))) Promoted (s .inbox)) Nothing
 
 module _ (S : Setup) where
-  -- the Val that P's instruction sends, if it is TIME (P0); what is left in B's inbox after its instruction (P6)
+  -- the Val that P's instruction sends, if it is TIME (P0)
   unfoldable pub sends : Card → ℕ → List Message
   sends c w = pick (atTime S (c .guest)) (val (c .epoch) w ∷ []) []
 
+  -- what is left in B's inbox after its instruction: TIME "reads the first Val of B's epoch in the inbox and removes it" (P6)
   unfoldable pub unread : EpochNo → Guest → List Message → List Message
   unread e g ms = pick (atTime S g) (dropVal e ms) ms
 

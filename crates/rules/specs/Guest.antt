@@ -13,6 +13,7 @@ use Rattle.rules.specs.declared.Guest.{Guest}
 unfoldable pub fresh : Guest
 fresh = record { pc = 0; done = 0; times = 0; armed = false; deadline = 0; regs = replicate 8 0; mem = replicate 64 0; last = record { 0 = 0 }; table = []; queue = [] }
 
+-- the guest with one part changed
 abbrev pub withRegs : Guest → List ℕ → Guest
 withRegs g rs = record { pc = g .pc; done = g .done; times = g .times; armed = g .armed; deadline = g .deadline; regs = rs; mem = g .mem; last = g .last; table = g .table; queue = g .queue }
 
@@ -43,6 +44,7 @@ onward g n = record { pc = n; done = suc (g .done); times = g .times; armed = g 
 abbrev pub reg : Guest → ℕ → ℕ
 reg g x = getD (g .regs) x 0
 
+-- the guest with v in r[x]
 abbrev pub withReg : Guest → ℕ → ℕ → Guest
 withReg g x v = withRegs g (set (g .regs) x v)
 

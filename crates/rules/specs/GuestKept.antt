@@ -23,7 +23,7 @@ pub record Kept (n l : ℕ) (Ok : Guest → Type 0) (on : (Guest → Guest) → 
   -- "buffered device interrupts .., each leaving the table and joining the queue": one, and all, with status and fields as in PINT
   pub delivery : (i : Interrupt) → proper i ≡ true → (g : Guest) → Ok g → Ok (on (λ h. deliver h i) g)
   pub deliveries : (is : List Interrupt) → every proper is ≡ true → (g : Guest) → Ok g → Ok (on (λ h. delivers h is) g)
-  -- "next an uncertain interrupt for each operation still in the table"
+  -- "next an uncertain interrupt .. for each operation still in the table"
   pub uncertainty : (g : Guest) → Ok g → Ok (on tellUncertain g)
   -- "last, if armed and deadline ≤ clock, .."
   pub timers : (c : ℕ) (g : Guest) → Ok g → Ok (on (timer c) g)
@@ -33,6 +33,7 @@ pub record Kept (n l : ℕ) (Ok : Guest → Type 0) (on : (Guest → Guest) → 
   pub boundaries : (is : List Interrupt) → every proper is ≡ true → (c : ℕ) (g : Guest) → Ok g → Ok (on (boundary is c) g)
   pub failovers : (is : List Interrupt) → every proper is ≡ true → (c : ℕ) (g : Guest) → Ok g → Ok (on (failover is c) g)
 
+-- all of it, of an instruction and of each part of a boundary
 pub record GuestKept : Type 0 where
   -- "Fresh: all zero"
   pub start : (n l : ℕ) → 0 < n → soundGuest n l fresh ≡ true

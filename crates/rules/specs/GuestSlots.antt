@@ -14,15 +14,18 @@ use Rattle.rules.specs.GuestSound.{soundGuest}
 abbrev pub usedOp : OpNo → Bool
 usedOp o = not (eqb (o .0) 0)
 
+-- an interrupt's status tells
 abbrev pub usedInterrupt : Interrupt → Bool
 usedInterrupt i = not (eqb (i .status) 0)
 
+-- the free slot of a table, and of a queue or buffer
 abbrev pub zeroOp : OpNo
 zeroOp = record { 0 = 0 }
 
 abbrev pub zeroInterrupt : Interrupt
 zeroInterrupt = record { status = 0; op = zeroOp; word = 0 }
 
+-- a slot is free and zero
 abbrev pub isZeroOp : OpNo → Bool
 isZeroOp o = eqb (o .0) 0
 
@@ -37,6 +40,7 @@ seenGuest g = withQueue (withTable g (entries usedOp (g .table))) (entries usedI
 unfoldable pub laidGuest : Guest → Guest
 laidGuest g = withQueue (withTable g (padded 16 zeroOp (g .table))) (padded 17 zeroInterrupt (g .queue))
 
+-- what an instruction leaves, laid out
 unfoldable pub laidRan : Ran → Ran
 laidRan r = record { guest = laidGuest (r .guest); shown = r .shown }
 

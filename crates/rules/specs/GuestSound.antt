@@ -28,7 +28,7 @@ ascending n last [] = true
 ascending n last (o ∷ os) = ltb n (o .0) && leb (o .0) last && ascending (o .0) last os
 
 -- under N and L: "deadline 0 unless armed; .. pc < N; instructions ≤ L; TIMEs ≤ 40 and ≤ instructions;
--- .. table ascending and ≤ the last number; .. at most one timer entry; table plus device entries ≤ 16"
+-- .. table ascending and ≤ the last number; .. at most one timer entry ..; table plus device entries ≤ 16"
 unfoldable pub soundGuest : ℕ → ℕ → Guest → Bool
 soundGuest n l g =
     (g .armed || eqb (g .deadline) 0)

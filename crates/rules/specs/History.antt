@@ -16,6 +16,7 @@ use Rattle.rules.specs.Pair.{freshPair}
 use Rattle.rules.specs.Events.{Verdict, refused, taken, kind, step}
 use Rattle.rules.specs.PairSlots.{laid, apply}
 
+-- the pair as it stands, what the devices were shown, and the guests on entry
 pub record History : Type 0 where
   pub pair : Pair
   pub shown : List RecordEntry
@@ -44,12 +45,15 @@ after ev h (taken s o) =
     }
 
 module _ (S : Setup) where
+  -- "P starts in epoch 1": it has entered that, and B has entered none
   unfoldable pub freshHistory : History
   freshHistory = record { pair = freshPair S; shown = []; enteredP = fresh ∷ []; enteredB = [] }
 
+  -- one more event
   unfoldable pub feed : History → Event → History
   feed h ev = after ev h (step (S .code) (h .pair) ev)
 
+  -- one event after the other
   unfoldable pub run : History → List Event → History
   run h [] = h
   run h (ev ∷ evs) = run (feed h ev) evs

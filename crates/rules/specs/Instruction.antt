@@ -18,6 +18,7 @@ use Rattle.rules.specs.Guest.{withMem, withTimer, withLast, withTable, w
 abbrev pub wordSize : ℕ
 wordSize = 4294967296
 
+-- "r[y] ± r[z], modulo 2^32"
 abbrev pub sum : ℕ → ℕ → ℕ
 sum a b = (a + b) % wordSize
 
@@ -33,6 +34,7 @@ quotient a (suc b) = a / suc b
 abbrev pub isTimer : Interrupt → Bool
 isTimer i = eqb (i .status) 3
 
+-- any other is a device's
 abbrev pub isDevice : Interrupt → Bool
 isDevice i = not (isTimer i)
 
@@ -55,10 +57,11 @@ cannotStart g = eqb (length (g .table) + count isDevice (g .queue)) 16 || eqb (g
 abbrev pub nextOp : Guest → OpNo
 nextOp g = record { 0 = suc (g .last .0) }
 
+-- nothing is shown
 abbrev pub quiet : Guest → Ran
 quiet g = record { guest = g; shown = Nothing }
 
--- "Otherwise it takes the next number, enters it in the table, and the word is read before r[z] is written"
+-- "Otherwise it takes the next number .., enters it in the table, and the word is read before r[z] is written"
 unfoldable pub starts : Guest → ℕ → ℕ → ℕ → Ran
 starts g x y z =
     record {
@@ -93,7 +96,7 @@ perform (Timer x) g n c = quiet (onward (withTimer g true (reg g x)) n)
 unfoldable pub next : ℕ → Guest → ℕ
 next n g = pick (ltb (suc (g .pc)) n) (suc (g .pc)) 0
 
--- "An epoch is complete after L instructions or its 40th TIME"
+-- "An epoch is complete after L instructions .. or its 40th TIME"
 unfoldable pub complete : ℕ → Guest → Bool
 complete l g = leb l (g .done) || leb 40 (g .times)
 

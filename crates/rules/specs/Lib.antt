@@ -6,7 +6,6 @@ pub mod Program
 pub mod GuestSound
 pub mod GuestSlots
 pub mod GuestKept
-pub mod GuestCases
 pub mod Messages
 pub mod Pair
 pub mod Sound
@@ -16,4 +15,3 @@ pub mod PairKept
 pub mod Bytes
 pub mod History
 pub mod Lone
-pub mod Cases

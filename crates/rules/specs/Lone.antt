@@ -20,6 +20,7 @@ use Rattle.rules.specs.GuestSound.{says}
 use Rattle.rules.specs.Messages.{only}
 use Rattle.rules.specs.History.{recorded}
 
+-- its guest, the interrupts buffered, and its record
 pub record Lone : Type 0 where
   pub guest : Guest
   pub buffer : List Interrupt
@@ -62,10 +63,12 @@ module _ (S : Setup) where
   loneStep c (bound w) =
       only (complete (S .limit) (c .guest)) (record { guest = boundary (c .buffer) w (c .guest); buffer = []; shown = c .shown })
 
+  -- one step after the other; none, where one is not allowed
   unfoldable pub loneSteps : Option Lone → List LoneStep → Option Lone
   loneSteps c [] = c
   loneSteps none (s ∷ ss) = none
   loneSteps (some c) (s ∷ ss) = loneSteps (loneStep c s) ss
 
+-- a fresh guest, nothing buffered, nothing shown
 unfoldable pub freshLone : Lone
 freshLone = record { guest = fresh; buffer = []; shown = [] }

@@ -48,9 +48,11 @@ intOf e m = only (ofKind 2 e m) (interruptOf m)
 unfoldable pub tmeOf : EpochNo → Message → Option ℕ
 tmeOf e m = only (ofKind 3 e m) (m .word)
 
+-- is it [end, e]?
 unfoldable pub isEnd : EpochNo → Message → Bool
 isEnd e m = ofKind 4 e m
 
+-- what was found, in front of the rest
 unfoldable pub place {ℓ} : {X : Type ℓ} → Option X → List X → List X
 place none l = l
 place (some x) l = x ∷ l
@@ -60,6 +62,7 @@ unfoldable pub gather {ℓ} : {X : Type ℓ} → (Message → Option X) → List
 gather f [] = []
 gather f (m ∷ ms) = place (f m) (gather f ms)
 
+-- the clocks in the Vals of epoch e, the interrupts in its Ints, the clocks in its Tmes
 unfoldable pub vals : EpochNo → List Message → List ℕ
 vals e ms = gather (valOf e) ms
 
@@ -77,6 +80,7 @@ hasEnd e ms = any (isEnd e) ms
 unfoldable pub dropVal : EpochNo → List Message → List Message
 dropVal e ms = without (ofKind 1 e) ms
 
+-- without those of epoch e
 unfoldable pub dropEpoch : EpochNo → List Message → List Message
 dropEpoch e ms = keep (λ m. not (ofEpoch e m)) ms
 

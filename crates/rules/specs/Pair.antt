@@ -17,6 +17,7 @@ use Rattle.rules.specs.declared.Pair.{Pair}
 use Rattle.rules.specs.Guest.{fresh, listed, opsOf}
 use Rattle.rules.specs.Program.{Setup}
 
+-- "P phase (1 running, 2 waiting, 3 failed)"
 unfoldable pub isFailed : Phase → Bool
 isFailed Running = false
 isFailed (Waiting c) = false
@@ -33,6 +34,7 @@ clockSent Running = 0
 clockSent (Waiting c) = c
 clockSent Failed = 0
 
+-- "B phase (1 following, 2 failover, 3 promoted)"
 unfoldable pub isFollowing : Role → Bool
 isFollowing Following = true
 isFollowing Failover = false
@@ -43,6 +45,7 @@ isPromoted Following = false
 isPromoted Failover = false
 isPromoted Promoted = true
 
+-- the number of the next epoch
 abbrev pub nextEpoch : EpochNo → EpochNo
 nextEpoch e = record { 0 = suc (e .0) }
 
@@ -53,6 +56,37 @@ idle s = eqb (s .b .epoch .0) 0
 -- not "not in P's table or already buffered"
 unfoldable pub awaited : Card → OpNo → Bool
 awaited c n = listed n (c .guest .table) && not (listed n (opsOf (c .buffer)))
+
+-- the pair with one part changed
+abbrev pub withP : Pair → Card → Pair
+withP s c = record { p = c; phase = s .phase; b = s .b; role = s .role; detected = s .detected; limit = s .limit; count = s .count; link = s .link; acks = s .acks; inbox = s .inbox }
+
+abbrev pub withPhase : Pair → Phase → Pair
+withPhase s f = record { p = s .p; phase = f; b = s .b; role = s .role; detected = s .detected; limit = s .limit; count = s .count; link = s .link; acks = s .acks; inbox = s .inbox }
+
+abbrev pub withB : Pair → Card → Pair
+withB s c = record { p = s .p; phase = s .phase; b = c; role = s .role; detected = s .detected; limit = s .limit; count = s .count; link = s .link; acks = s .acks; inbox = s .inbox }
+
+abbrev pub withRole : Pair → Role → Pair
+withRole s o = record { p = s .p; phase = s .phase; b = s .b; role = o; detected = s .detected; limit = s .limit; count = s .count; link = s .link; acks = s .acks; inbox = s .inbox }
+
+abbrev pub withDetected : Pair → Bool → Pair
+withDetected s d = record { p = s .p; phase = s .phase; b = s .b; role = s .role; detected = d; limit = s .limit; count = s .count; link = s .link; acks = s .acks; inbox = s .inbox }
+
+abbrev pub withLimit : Pair → ℕ → Pair
+withLimit s l = record { p = s .p; phase = s .phase; b = s .b; role = s .role; detected = s .detected; limit = l; count = s .count; link = s .link; acks = s .acks; inbox = s .inbox }
+
+abbrev pub withCount : Pair → ℕ → Pair
+withCount s n = record { p = s .p; phase = s .phase; b = s .b; role = s .role; detected = s .detected; limit = s .limit; count = n; link = s .link; acks = s .acks; inbox = s .inbox }
+
+abbrev pub withLink : Pair → List Message → Pair
+withLink s ms = record { p = s .p; phase = s .phase; b = s .b; role = s .role; detected = s .detected; limit = s .limit; count = s .count; link = ms; acks = s .acks; inbox = s .inbox }
+
+abbrev pub withAcks : Pair → ℕ → Pair
+withAcks s n = record { p = s .p; phase = s .phase; b = s .b; role = s .role; detected = s .detected; limit = s .limit; count = s .count; link = s .link; acks = n; inbox = s .inbox }
+
+abbrev pub withInbox : Pair → List Message → Pair
+withInbox s ms = record { p = s .p; phase = s .phase; b = s .b; role = s .role; detected = s .detected; limit = s .limit; count = s .count; link = s .link; acks = s .acks; inbox = ms }
 
 -- the card with another guest; with one more interrupt buffered; in its next epoch
 unfoldable pub ranOn : Card → Guest → Card
@@ -66,26 +100,26 @@ enters c g = record { guest = g; epoch = nextEpoch (c .epoch); buffer = [] }
 
 -- the pair with another first card and phase, and messages sent; with another second card, role and inbox
 unfoldable pub onP : Pair → Card → Phase → List Message → Pair
-onP s c f ms = record { p = c; phase = f; b = s .b; role = s .role; detected = s .detected; limit = s .limit; count = s .count; link = s .link ++ ms; acks = s .acks; inbox = s .inbox }
+onP s c f ms = withLink (withPhase (withP s c) f) (s .link ++ ms)
 
 unfoldable pub onB : Pair → Card → Role → List Message → Pair
-onB s c o ms = record { p = s .p; phase = s .phase; b = c; role = o; detected = s .detected; limit = s .limit; count = s .count; link = s .link; acks = s .acks; inbox = ms }
+onB s c o ms = withInbox (withRole (withB s c) o) ms
 
--- "oldest message moves to B's inbox, acknowledgement sets out"
+-- "oldest message moves to B's inbox .., acknowledgement sets out"
 unfoldable pub received : Pair → Message → List Message → Pair
-received s m ms = record { p = s .p; phase = s .phase; b = s .b; role = s .role; detected = s .detected; limit = s .limit; count = s .count; link = ms; acks = suc (s .acks); inbox = s .inbox ++ (m ∷ []) }
+received s m ms = withInbox (withAcks (withLink s ms) (suc (s .acks))) (s .inbox ++ (m ∷ []))
 
 -- "P receives one acknowledgement"
 unfoldable pub acknowledged : Pair → Pair
-acknowledged s = record { p = s .p; phase = s .phase; b = s .b; role = s .role; detected = s .detected; limit = s .limit; count = s .count; link = s .link; acks = pred (s .acks); inbox = s .inbox }
+acknowledged s = withAcks s (pred (s .acks))
 
 -- "P halts for good, clock sent becomes 0"
 unfoldable pub halted : Pair → Pair
-halted s = record { p = s .p; phase = Failed; b = s .b; role = s .role; detected = s .detected; limit = s .limit; count = s .count; link = s .link; acks = s .acks; inbox = s .inbox }
+halted s = withPhase s Failed
 
 -- "B learns of it"
 unfoldable pub noticed : Pair → Pair
-noticed s = record { p = s .p; phase = s .phase; b = s .b; role = s .role; detected = true; limit = s .limit; count = s .count; link = s .link; acks = s .acks; inbox = s .inbox }
+noticed s = withDetected s true
 
 -- the program's bytes, with the pair's own N and L
 unfoldable pub setupOf : List ℕ → Pair → Setup

@@ -20,12 +20,14 @@ pub record SizedCard (c : Card) : Type 0 where
   pub queue : length (c .guest .queue) ≡ 17
   pub buffer : length (c .buffer) ≡ 16
 
+-- "Link 58×12, inbox 128×12", and cards of their sizes
 pub record Sized (s : Pair) : Type 0 where
   pub p : SizedCard (s .p)
   pub b : SizedCard (s .b)
   pub link : length (s .link) ≡ 58
   pub inbox : length (s .inbox) ≡ 128
 
+-- what soundness gives of a pair in memory, and that every event keeps it
 pub record PairKept : Type 0 where
   -- set-up, from a good program and L
   pub start : (S : Setup) → good S ≡ true → sound (freshPair S) ≡ true

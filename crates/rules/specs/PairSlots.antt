@@ -25,6 +25,7 @@ use Rattle.rules.specs.Events.{Verdict, refused, taken, number, inFront,
 abbrev pub usedMessage : Message → Bool
 usedMessage m = not (eqb (m .kind) 0)
 
+-- the free slot of the link and of the inbox, and whether one is zero
 abbrev pub zeroMessage : Message
 zeroMessage = record { kind = 0; status = 0; epoch = record { 0 = 0 }; op = zeroOp; word = 0 }
 
@@ -56,6 +57,7 @@ tightPair s = tightCard (s .p) && tightCard (s .b) && tight usedMessage isZeroMe
 unfoldable pub soundPair : Pair → Bool
 soundPair s = tightPair s && sound (seen s)
 
+-- what an event leaves, laid out
 unfoldable pub stored : Verdict → Verdict
 stored (refused why) = refused why
 stored (taken s o) = taken (laid s) o

@@ -10,16 +10,18 @@ use Rattle.rules.specs.declared.Ran.{Ran}
 use Rattle.rules.specs.Decode.{fetch, instrOf, isBad}
 use Rattle.rules.specs.Instruction.{perform, next, isTime}
 
+-- a program's bytes, N, and L
 pub record Setup : Type 0 where
   pub code : List ℕ
   pub count : ℕ
   pub limit : ℕ
 
--- a program's bytes and L: "A program has N instructions of 4 bytes"
+-- a program's bytes and L: "A program has N instructions .. of 4 bytes"
 unfoldable pub under : List ℕ → ℕ → Setup
 under code l = record { code = code; count = length code / 4; limit = l }
 
 module _ (S : Setup) where
+  -- the instruction at pc
   unfoldable pub instr : Guest → Instr
   instr g = instrOf (fetch (S .code) (S .count) (g .pc))
 
@@ -27,6 +29,7 @@ module _ (S : Setup) where
   unfoldable pub bad : Guest → Bool
   bad g = isBad (fetch (S .code) (S .count) (g .pc))
 
+  -- it is TIME
   unfoldable pub atTime : Guest → Bool
   atTime g = isTime (instr g)
 

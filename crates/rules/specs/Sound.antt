@@ -70,6 +70,7 @@ soundTurns s =
 unfoldable pub soundLimits : Pair → Bool
 soundLimits s = leb 1 (s .limit) && leb (s .limit) 4096 && leb 1 (s .count) && leb (s .count) 1024
 
+-- "Sound": all of it
 unfoldable pub sound : Pair → Bool
 sound s =
     soundLimits s

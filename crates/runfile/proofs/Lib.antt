@@ -3,4 +3,5 @@ pub mod Reading
 pub mod Writing
 pub mod RoundTrips
 pub mod Exact
-pub mod Example
+pub mod Cases
+pub mod Refusals

@@ -16,6 +16,7 @@ use Rattle.forms.proofs.Part.{part, part-join}
 use Rattle.forms.specs.Stored.{any}
 use Rattle.forms.specs.Lent.{refusing, whereTaken}
 use Rattle.forms.proofs.Lawful.{Lawful, byte-lawful, half-lawful, word-lawful, always-lawful, anything, _and-then_, storedAs-lawful}
+use Rattle.rules.proofs.Answers.{is-refused, taken-zero, zero-taken}
 use Rattle.rules.specs.declared.Answer.{Answer}
 use Rattle.rules.specs.declared.Answer.the-variants.{Taken, Refused}
 use Rattle.rules.specs.declared.Refusal.{Refusal}
@@ -91,7 +92,7 @@ module _ (limit : ℕ) (program events : List ℕ) (fine : fineLengths (length p
 
   reads-file : Reads file limit program events
   reads-file = record {
-    answers = taken file is-run-file;
+    answers = taken-zero (taken file is-run-file);
     reads-limit = limit-there file is-run-file ∙ ap (λ (h : Header). h .limit) says;
     reads-program = program-there file is-run-file ∙ ap (λ (h : Header). take (h .program) (drop bodies file)) says ∙ program-body;
     reads-events = events-there file is-run-file ∙ ap (λ (h : Header). take (h .events) (drop (bodies + h .program) file)) says ∙ events-body;
@@ -105,7 +106,8 @@ passed true why a e = let z : _≡_ {A = ℕ} 0 1 = cc in absurd (omega arith)
 
 pub reads-what-was-written : ReadsWhatWasWritten
 unfolding writeAnswer written whereTaken
-reads-what-was-written limit program events b e =
+reads-what-was-written limit program events b z =
+    let e = zero-taken (writeAnswer program events b) z in
     let fine = not-false (fineLengths (length program) (length events)) (passed _ _ _ e .0) in
     let front = take-at (runBytes limit program events) (drop (runLength program events) b) (runLength program events) (run-length limit program events) in
     rw (e, front) (reads-file limit program events fine)
@@ -142,18 +144,18 @@ module _ (s : List ℕ) (h : isRunFile s ≡ true) where
 
 pub writes-what-was-read : WritesWhatWasRead
 unfolding written whereTaken
-writes-what-was-read s b bytes e l =
-    let h = accepted s e in
+writes-what-was-read s b bytes z l r e w =
+    let h = accepted s (zero-taken (readAnswer s) z) in
     let n = runLength (readProgram s) (readEvents s) in
     let answer = room (readProgram s) (readEvents s) b (lengths-fine s h) (omega (arith, all-there s h)) in
     let nothing : drop n b ≡ [] = drop-of-length-le b {i = n} (omega (arith, all-there s h)) in
-    record { answers = sym answer; leaves = rw (answer, nothing, append-nil) (sym (same s h bytes)) }
+    (taken-zero (w .answers ∙ answer), w .leaves ∙ rw (answer, nothing, append-nil) (same s h bytes))
 
 -- ---- what is left in a buffer
 
 pub refused-write : RefusedWrite
 unfolding written whereTaken
-refused-write limit program events b why e w = w .leaves ∙ rw (← (w .answers))
+refused-write limit program events b r e w q = w .leaves ∙ rw (← (w .answers), is-refused r q .1)
 
 rest : (n : ℕ) (xs b : List ℕ) → length xs ≡ n → (a : Answer) → drop n (whereTaken a (xs ++ drop n b) b) ≡ drop n b
 unfolding whereTaken

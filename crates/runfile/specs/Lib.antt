@@ -1,2 +1,4 @@
 pub mod RunFile
 pub mod RoundTrips
+pub mod Cases
+pub mod Refusals

@@ -5,13 +5,12 @@ use Prim.Native.Nat.{ℕ}
 use lib.ListN.{length, take, drop}
 use Rattle.words.specs.Numbers.{Bytes}
 use Rattle.rules.specs.declared.Answer.{Answer}
-use Rattle.rules.specs.declared.Answer.the-variants.{Taken, Refused}
-use Rattle.rules.specs.declared.Refusal.{Refusal}
+use Rattle.rules.specs.PairSlots.{answerNumber}
 use Rattle.runfile.specs.RunFile.{readAnswer, readLimit, readProgram, readEvents, runLength, writeAnswer, written, Writes}
 
 -- s is read as this L, this program and these events
 pub record Reads (s : List ℕ) (limit : ℕ) (program events : List ℕ) : Type 0 where
-  pub answers : readAnswer s ≡ Taken
+  pub answers : answerNumber (readAnswer s) ≡ 0
   pub reads-limit : readLimit s ≡ limit
   pub reads-program : readProgram s ≡ program
   pub reads-events : readEvents s ≡ events
@@ -20,7 +19,7 @@ pub record Reads (s : List ℕ) (limit : ℕ) (program events : List ℕ) : Type
 abbrev pub ReadsWhatWasWritten : Type 0
 ReadsWhatWasWritten =
     (limit : ℕ) (program events b : List ℕ)
-    → writeAnswer program events b ≡ Taken
+    → answerNumber (writeAnswer program events b) ≡ 0
     → Reads (take (runLength program events) (written limit program events b)) limit program events
 
 -- What reading accepts, writing gives back byte for byte, in any buffer of the file's length.
@@ -28,13 +27,15 @@ abbrev pub WritesWhatWasRead : Type 0
 WritesWhatWasRead =
     (s b : List ℕ)
     → Bytes s
-    → readAnswer s ≡ Taken
+    → answerNumber (readAnswer s) ≡ 0
     → length b ≡ length s
-    → Writes (readLimit s) (readProgram s) (readEvents s) b Taken s
+    → (r : Answer) (e : List ℕ)
+    → Writes (readLimit s) (readProgram s) (readEvents s) b r e
+    → (answerNumber r ≡ 0) × (e ≡ s)
 
 -- A refused write leaves the buffer as it was.
 abbrev pub RefusedWrite : Type 0
-RefusedWrite = (limit : ℕ) (program events b : List ℕ) (why : Refusal) (e : List ℕ) → Writes limit program events b (Refused why) e → e ≡ b
+RefusedWrite = (limit : ℕ) (program events b : List ℕ) (r : Answer) (e : List ℕ) → Writes limit program events b r e → (answerNumber r ≡ 0 → ⊥) → e ≡ b
 
 -- "writing a run file, into a longer buffer keeps the rest of it"
 abbrev pub KeepsTheRest : Type 0

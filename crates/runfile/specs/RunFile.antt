@@ -40,6 +40,7 @@ pub record Entry : Type 0 where
 abbrev pub entryOf : ℕ → ℕ → Entry
 entryOf offset size = record { offset = offset; size = size }
 
+-- where they stand
 abbrev pub entry : ℕ → Stored Entry
 entry tag = storedAs (always word tag then word then word) (λ t. entryOf (t .0 .1) (t .1)) (λ e. ((tt, e .offset), e .size)) any
 
@@ -47,6 +48,7 @@ entry tag = storedAs (always word tag then word then word) (λ t. entryOf (t .0 
 abbrev pub Fields : Type 0
 Fields = (((Unit {0} × Unit {0}) × ℕ) × Entry) × Entry
 
+-- where each stands
 abbrev pub fields : Stored Fields
 fields = always byte runForm then always byte entryCount then half then entry programTag then entry eventsTag
 
@@ -56,9 +58,11 @@ pub record Header : Type 0 where
   pub program : ℕ
   pub events : ℕ
 
+-- a header of these three
 abbrev pub headerOf : ℕ → ℕ → ℕ → Header
 headerOf limit program events = record { limit = limit; program = program; events = events }
 
+-- what the fields say
 abbrev pub saidBy : Fields → Header
 saidBy t = headerOf (t .0 .0 .1) (t .0 .1 .size) (t .1 .size)
 
@@ -70,9 +74,11 @@ fieldsOf h = ((((tt, tt), h .limit), entryOf bodies (h .program)), entryOf (bodi
 unfoldable pub fineProgram : ℕ → Bool
 fineProgram n = leb 4 n && leb n 4096 && eqb (n % 4) 0
 
+-- events of this many bytes
 unfoldable pub fineEvents : ℕ → Bool
 fineEvents n = leb n 32768 && eqb (n % 8) 0
 
+-- both
 unfoldable pub fineLengths : ℕ → ℕ → Bool
 fineLengths program events = fineProgram program && fineEvents events
 
@@ -80,6 +86,7 @@ fineLengths program events = fineProgram program && fineEvents events
 abbrev pub fineFields : Fields → Bool
 fineFields t = fineLengths (t .0 .1 .size) (t .1 .size) && (eqb (t .0 .1 .offset) bodies && eqb (t .1 .offset) (bodies + t .0 .1 .size))
 
+-- the header as it is stored
 abbrev pub header : Stored Header
 header = storedAs fields saidBy fieldsOf fineFields
 
@@ -97,9 +104,11 @@ readAnswer s = refusing (not (isRunFile s)) BadFile Taken
 unfoldable pub readLimit : List ℕ → ℕ
 readLimit s = whereTaken (readAnswer s) (header .at s 0 .limit) 0
 
+-- the program
 unfoldable pub readProgram : List ℕ → List ℕ
 readProgram s = whereTaken (readAnswer s) (take (header .at s 0 .program) (drop bodies s)) []
 
+-- the events
 unfoldable pub readEvents : List ℕ → List ℕ
 readEvents s = let h = header .at s 0 in whereTaken (readAnswer s) (take (h .events) (drop (bodies + h .program) s)) []
 
@@ -109,6 +118,7 @@ readEvents s = let h = header .at s 0 in whereTaken (readAnswer s) (take (h .eve
 unfoldable pub runBytes : ℕ → List ℕ → List ℕ → List ℕ
 runBytes limit program events = header .bytes (headerOf limit (length program) (length events)) ++ program ++ events
 
+-- how many bytes it has
 abbrev pub runLength : List ℕ → List ℕ → ℕ
 runLength program events = bodies + length program + length events
 

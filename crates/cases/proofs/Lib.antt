@@ -1,0 +1,10 @@
+pub mod Names
+pub mod Guest
+pub mod Example
+pub mod SettingUp
+pub mod Cards
+pub mod Order
+pub mod Sound
+pub mod Unreached
+pub mod LoneCard
+pub mod Cases
