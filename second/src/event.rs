@@ -6,6 +6,37 @@ use crate::numbers::Operation;
 
 pub const EVENT_BYTES: usize = 8;
 
+/// The kinds of events, by the numbers of 01's table.
+#[derive(Clone, Copy, Debug, PartialEq, Eq, PartialOrd, Ord)]
+pub enum EventKind {
+    PStep = 1,
+    PInt = 2,
+    PTime = 3,
+    PEnd = 4,
+    Link = 5,
+    Ack = 6,
+    Fail = 7,
+    Detect = 8,
+    BStep = 9,
+    BEnd = 10,
+    BInt = 11,
+}
+
+/// All of them, in the table's order.
+pub const EVENT_KINDS: &[EventKind] = &[
+    EventKind::PStep,
+    EventKind::PInt,
+    EventKind::PTime,
+    EventKind::PEnd,
+    EventKind::Link,
+    EventKind::Ack,
+    EventKind::Fail,
+    EventKind::Detect,
+    EventKind::BStep,
+    EventKind::BEnd,
+    EventKind::BInt,
+];
+
 #[derive(Clone, Copy, Debug, PartialEq, Eq)]
 pub enum Event {
     PStep { word: u32 },
@@ -51,19 +82,19 @@ impl Event {
         }
     }
 
-    pub fn kind(self) -> u8 {
+    pub fn kind(self) -> EventKind {
         match self {
-            Event::PStep { .. } => 1,
-            Event::PInt(_) => 2,
-            Event::PTime { .. } => 3,
-            Event::PEnd => 4,
-            Event::Link => 5,
-            Event::Ack => 6,
-            Event::Fail => 7,
-            Event::Detect => 8,
-            Event::BStep { .. } => 9,
-            Event::BEnd { .. } => 10,
-            Event::BInt(_) => 11,
+            Event::PStep { .. } => EventKind::PStep,
+            Event::PInt(_) => EventKind::PInt,
+            Event::PTime { .. } => EventKind::PTime,
+            Event::PEnd => EventKind::PEnd,
+            Event::Link => EventKind::Link,
+            Event::Ack => EventKind::Ack,
+            Event::Fail => EventKind::Fail,
+            Event::Detect => EventKind::Detect,
+            Event::BStep { .. } => EventKind::BStep,
+            Event::BEnd { .. } => EventKind::BEnd,
+            Event::BInt(_) => EventKind::BInt,
         }
     }
 
@@ -79,7 +110,7 @@ impl Event {
             }
             _ => (0, Operation::NONE, 0),
         };
-        let mut bytes = [self.kind(), status, 0, 0, 0, 0, 0, 0];
+        let mut bytes = [self.kind() as u8, status, 0, 0, 0, 0, 0, 0];
         bytes[2..4].copy_from_slice(&operation.0.to_le_bytes());
         bytes[4..8].copy_from_slice(&word.to_le_bytes());
         bytes

@@ -2,8 +2,9 @@
 //! answers can be laid beside those of another program.
 //!
 //! The machine: `instruction`, `interrupt`, `guest`; `event`, `message`, `pair`; the events in
-//! `step`, `card_p`, `link`, `card_b`; `sound`. The stored forms: `image`, `runfile`. The
-//! programs: `bench`, `probe`, `text`, `generate`, `check`.
+//! `step`, `card_p`, `link`, `card_b`; `sound`. One card in the place of two: `lone`, `one_card`.
+//! The stored forms: `image`, `runfile`. A run told again: `retell`. The programs: `bench`,
+//! `probe`, `text`, `generate`, `check`.
 
 pub mod bench;
 pub mod bytes;
@@ -17,11 +18,14 @@ pub mod image;
 pub mod instruction;
 pub mod interrupt;
 pub mod link;
+pub mod lone;
 pub mod message;
 pub mod numbers;
+pub mod one_card;
 pub mod pair;
 pub mod probe;
 pub mod refusal;
+pub mod retell;
 pub mod runfile;
 pub mod sound;
 pub mod step;

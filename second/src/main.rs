@@ -1,10 +1,12 @@
 //! The subcommands of `second`.
 
+use std::collections::BTreeMap;
 use std::fs;
 use std::io::{self, BufReader, BufWriter, Read, Write};
 use std::path::Path;
 use std::process::ExitCode;
 
+use second::check::Tried;
 use second::runfile::LONGEST_FILE;
 use second::{bench, check, generate, probe, text};
 
@@ -67,14 +69,19 @@ fn run_probe() -> io::Result<()> {
 
 /// Says how often each kind of event got each answer, so that a reader sees what was reached.
 fn run_check(seed: u64, count: usize) -> Result<(), String> {
-    let tally = check::check(seed, count)?;
+    let tried = check::check(seed, count)?;
+    let mut kinds: BTreeMap<u8, Vec<String>> = BTreeMap::new();
+    for ((kind, answer), times) in &tried.answers {
+        kinds.entry(*kind).or_default().push(format!("{answer} × {times}"));
+    }
     let mut lines = String::from("kind: answer × times\n");
-    for (kind, answers) in tally.iter().enumerate().skip(1) {
-        let cells = answers.iter().enumerate().filter(|(_, times)| **times > 0);
-        let cells: Vec<String> =
-            cells.map(|(answer, times)| format!("{answer} × {times}")).collect();
+    for (kind, cells) in kinds {
         lines.push_str(&format!("{kind}: {}\n", cells.join(", ")));
     }
+    let Tried { runs, promoted, lone_steps, .. } = tried;
+    lines.push_str(&format!(
+        "one card in the place of two: {lone_steps} steps, {runs} records, {promoted} past a promotion\n"
+    ));
     lines.push_str(&format!("{count} runs checked, nothing wrong\n"));
     print_out(lines.as_bytes())
 }

@@ -22,3 +22,10 @@ pub fn answer<T>(outcome: &Result<T, Refusal>) -> u8 {
         Err(refusal) => *refusal as u8,
     }
 }
+
+/// For a check that may fail in other ways too.
+impl From<Refusal> for String {
+    fn from(refusal: Refusal) -> String {
+        format!("refused with {}", refusal as u8)
+    }
+}

@@ -1,46 +1,52 @@
 //! Long random runs, random sound pairs, and what the generator reaches.
 
+use std::collections::{BTreeMap, BTreeSet};
+
 use second::bench::bench;
 use second::check::check;
+use second::event::EventKind;
 use second::generate::random::Random;
 use second::generate::{requests, runs};
 use second::probe::probe;
 
-/// Soundness, 58 unacknowledged, guests equal on entry, LINK 6, save and load, text and back.
+/// Soundness, 58 unacknowledged, guests equal on entry, LINK 6, save and load, text and back, and
+/// that a single card could have left each record.
 #[test]
 fn nothing_goes_wrong_and_everything_is_reached() {
-    let tally = check(2, 600).unwrap();
+    let tried = check(2, 600).unwrap();
     // The answers of 01's table, event by event; 8 and 11 are no answer of the column.
-    let answers: [&[usize]; 11] = [
-        &[0, 2, 3],
-        &[0, 2, 5],
-        &[0, 2, 3],
-        &[0, 2, 3, 4, 7],
-        &[0, 4, 6],
-        &[0, 2, 4],
-        &[0, 2],
-        &[0, 3, 4],
-        &[0, 3],
-        &[0, 3, 4, 7],
-        &[0, 5],
+    let answers: &[(EventKind, &[u8])] = &[
+        (EventKind::PStep, &[0, 2, 3]),
+        (EventKind::PInt, &[0, 2, 5]),
+        (EventKind::PTime, &[0, 2, 3]),
+        (EventKind::PEnd, &[0, 2, 3, 4, 7]),
+        (EventKind::Link, &[0, 4, 6]),
+        (EventKind::Ack, &[0, 2, 4]),
+        (EventKind::Fail, &[0, 2]),
+        (EventKind::Detect, &[0, 3, 4]),
+        (EventKind::BStep, &[0, 3]),
+        (EventKind::BEnd, &[0, 3, 4, 7]),
+        (EventKind::BInt, &[0, 5]),
     ];
-    for (kind, expected) in (1..).zip(answers) {
-        let reached: Vec<usize> = (0..12).filter(|answer| tally[kind][*answer] > 0).collect();
-        assert_eq!(reached, expected, "kind {kind}");
-    }
+    let expected: BTreeSet<(u8, u8)> = answers
+        .iter()
+        .flat_map(|(kind, answers)| answers.iter().map(|answer| (*kind as u8, *answer)))
+        .collect();
+    assert_eq!(tried.answers.into_keys().collect::<BTreeSet<(u8, u8)>>(), expected);
+    assert!(tried.promoted > 300, "{} runs past a promotion", tried.promoted);
 }
 
 #[test]
 fn run_files_end_in_every_way() {
-    let mut reached = [0; 12];
+    let mut reached: BTreeMap<u8, usize> = BTreeMap::new();
     for index in 0..600 {
         let lines = bench(&runs::run_file(&mut Random::new(3, index), index));
         let last = lines.lines().last().unwrap();
-        let answer: usize = last.split(' ').nth(1).unwrap().parse().unwrap();
-        reached[answer] += 1;
+        let answer: u8 = last.split(' ').nth(1).unwrap().parse().unwrap();
+        *reached.entry(answer).or_default() += 1;
     }
     for answer in [0, 1, 2, 3, 4, 5, 6, 8, 10] {
-        assert!(reached[answer] > 0, "answer {answer}");
+        assert!(reached.contains_key(&answer), "answer {answer}");
     }
 }
 

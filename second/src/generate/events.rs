@@ -1,6 +1,6 @@
 //! Single events: well formed ones that the pair may take or refuse, and malformed ones.
 
-use crate::event::{Event, EVENT_BYTES};
+use crate::event::{Event, EventKind, EVENT_BYTES, EVENT_KINDS};
 use crate::generate::random::Random;
 use crate::guest::Guest;
 use crate::interrupt::{DeviceInterrupt, Outcome};
@@ -8,25 +8,25 @@ use crate::numbers::Operation;
 use crate::pair::Pair;
 
 /// A well formed event of a kind.
-pub fn event_of_kind(random: &mut Random, kind: usize, pair: &Pair, word: u32) -> Event {
+pub fn event_of_kind(random: &mut Random, kind: EventKind, pair: &Pair, word: u32) -> Event {
     match kind {
-        1 => Event::PStep { word },
-        2 => Event::PInt(interrupt(random, &pair.p, &pair.buffer_p)),
-        3 => Event::PTime { word },
-        4 => Event::PEnd,
-        5 => Event::Link,
-        6 => Event::Ack,
-        7 => Event::Fail,
-        8 => Event::Detect,
-        9 => Event::BStep { word },
-        10 => Event::BEnd { word },
-        _ => Event::BInt(interrupt(random, &pair.b, pair.buffer_b())),
+        EventKind::PStep => Event::PStep { word },
+        EventKind::PInt => Event::PInt(interrupt(random, &pair.p, &pair.buffer_p)),
+        EventKind::PTime => Event::PTime { word },
+        EventKind::PEnd => Event::PEnd,
+        EventKind::Link => Event::Link,
+        EventKind::Ack => Event::Ack,
+        EventKind::Fail => Event::Fail,
+        EventKind::Detect => Event::Detect,
+        EventKind::BStep => Event::BStep { word },
+        EventKind::BEnd => Event::BEnd { word },
+        EventKind::BInt => Event::BInt(interrupt(random, &pair.b, pair.buffer_b())),
     }
 }
 
 /// Any well formed event.
 pub fn any_event(random: &mut Random, pair: &Pair) -> Event {
-    let kind = random.between(1, 11);
+    let kind = random.pick(EVENT_KINDS);
     let word = word_near(random, pair);
     event_of_kind(random, kind, pair, word)
 }

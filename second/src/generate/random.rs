@@ -54,6 +54,12 @@ impl Random {
         unreachable!("the number drawn is below the sum of the weights")
     }
 
+    /// One of the things, each as often as its weight says; not all weights are 0.
+    pub fn pick_weighted<T: Copy>(&mut self, things: &[(T, usize)]) -> T {
+        let weights: Vec<usize> = things.iter().map(|(_, weight)| *weight).collect();
+        things[self.weighted(&weights)].0
+    }
+
     pub fn u8(&mut self) -> u8 {
         self.draw() as u8
     }

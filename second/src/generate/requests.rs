@@ -1,7 +1,7 @@
 //! Requests for the probe: images that runs reach and images that they do not, stores and buffers
 //! of every size, run files to read and to write.
 
-use crate::event::{Event, EVENT_BYTES};
+use crate::event::{Event, EventKind, EVENT_BYTES, EVENT_KINDS};
 use crate::generate::bad_files::{damaged, KINDS_OF_DAMAGE};
 use crate::generate::corners::corner;
 use crate::generate::damage::{damaged_image, DAMAGES};
@@ -276,14 +276,32 @@ fn step_event(random: &mut Random, pair: &Pair, program: &[u8]) -> Vec<u8> {
 }
 
 fn well_formed(random: &mut Random, pair: &Pair) -> [u8; EVENT_BYTES] {
-    let weights = if pair.phase_p == PhaseP::Failed {
-        [1, 1, 1, 1, 4, 1, 1, 3, 9, 9, 4]
-    } else {
-        [8, 5, 4, 6, 4, 3, 2, 2, 8, 8, 3]
-    };
-    let kind = 1 + random.weighted(&weights);
+    let failed = pair.phase_p == PhaseP::Failed;
+    let weights = EVENT_KINDS.iter().map(|kind| (*kind, weight(*kind, failed)));
+    let kind = random.pick_weighted(&weights.collect::<Vec<(EventKind, usize)>>());
     let word = word_near(random, pair);
     event_of_kind(random, kind, pair, word).bytes()
+}
+
+/// How often a kind of event is drawn while P lives, and once it has failed.
+fn weight(kind: EventKind, failed: bool) -> usize {
+    let (alive, dead) = match kind {
+        EventKind::PStep => (8, 1),
+        EventKind::PInt => (5, 1),
+        EventKind::PTime => (4, 1),
+        EventKind::PEnd => (6, 1),
+        EventKind::Link => (4, 4),
+        EventKind::Ack => (3, 1),
+        EventKind::Fail => (2, 1),
+        EventKind::Detect => (2, 3),
+        EventKind::BStep | EventKind::BEnd => (8, 9),
+        EventKind::BInt => (3, 4),
+    };
+    if failed {
+        dead
+    } else {
+        alive
+    }
 }
 
 fn save(random: &mut Random, reached: &Reached) -> Request {

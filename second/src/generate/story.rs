@@ -1,6 +1,6 @@
 //! Runs that go on: each event is tried on a pair of our own, and those that are taken are kept.
 
-use crate::event::{Event, EVENT_BYTES};
+use crate::event::{Event, EventKind, EVENT_BYTES};
 use crate::generate::events::event_of_kind;
 use crate::generate::programs::{self, Style};
 use crate::generate::random::Random;
@@ -163,9 +163,9 @@ impl Story {
     /// An event that fits the plan; the pair may still refuse it.
     pub fn candidate(&mut self, random: &mut Random) -> Event {
         let weights = self.weights();
-        let kind = 1 + random.weighted(&weights);
+        let kind = random.pick_weighted(&weights);
         let mut word = self.word(random);
-        if kind >= 9 && random.chance(20) {
+        if of_b(kind) && random.chance(20) {
             word = random.word(); // B's word must not matter where P's clock came through.
         }
         event_of_kind(random, kind, &self.pair, word)
@@ -183,8 +183,8 @@ impl Story {
         false
     }
 
-    /// How often each kind of event is tried, in the order of 01's table.
-    fn weights(&self) -> [usize; 11] {
+    /// How often each kind of event is tried.
+    fn weights(&self) -> Vec<(EventKind, usize)> {
         let Pace { p, mut link, mut ack, b, b_from, held } = self.plan.pace;
         let failed = self.pair.phase_p == PhaseP::Failed;
         if held && self.pair.phase_p == PhaseP::Running {
@@ -203,7 +203,19 @@ impl Story {
         let pint = if failed { 0 } else { self.plan.interrupts };
         let now_and_then = usize::from(self.events.len() % 16 == 0);
         let bint = if self.pair.detected { self.plan.interrupts } else { now_and_then };
-        [2 * p, pint, p, p, link, ack, fail, detect, 2 * b, b, bint]
+        vec![
+            (EventKind::PStep, 2 * p),
+            (EventKind::PInt, pint),
+            (EventKind::PTime, p),
+            (EventKind::PEnd, p),
+            (EventKind::Link, link),
+            (EventKind::Ack, ack),
+            (EventKind::Fail, fail),
+            (EventKind::Detect, detect),
+            (EventKind::BStep, 2 * b),
+            (EventKind::BEnd, b),
+            (EventKind::BInt, bint),
+        ]
     }
 
     fn word(&mut self, random: &mut Random) -> u32 {
@@ -217,4 +229,9 @@ impl Story {
             Clock::Any => random.word(),
         }
     }
+}
+
+/// The kinds whose word or data only B sees.
+fn of_b(kind: EventKind) -> bool {
+    matches!(kind, EventKind::BStep | EventKind::BEnd | EventKind::BInt)
 }

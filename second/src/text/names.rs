@@ -1,6 +1,6 @@
 //! How each instruction and each event is written, shown where a line has the wrong fields.
 
-pub const INSTRUCTION_FORMS: [&str; 13] = [
+pub const INSTRUCTION_FORMS: &[&str] = &[
     "NOP",
     "SET r1 7",
     "ADD r1 r2 r3",
@@ -16,7 +16,7 @@ pub const INSTRUCTION_FORMS: [&str; 13] = [
     "BYTES 00 01 02 03",
 ];
 
-pub const EVENT_FORMS: [&str; 12] = [
+pub const EVENT_FORMS: &[&str] = &[
     "PSTEP 0",
     "PINT 1 1 9",
     "PTIME 0",

@@ -115,7 +115,7 @@ fn instruction(words: &[&str], n: u16) -> Result<[u8; INSTRUCTION_BYTES], String
         ["TIME", x] => Instruction::Time { x: r(x)? },
         ["START", x, y, z] => Instruction::Start { x: r(x)?, device: device(y)?, z: r(z)? },
         ["TIMER", x] => Instruction::Timer { x: r(x)? },
-        _ => return Err(wrong_line(words, "instruction", &INSTRUCTION_FORMS)),
+        _ => return Err(wrong_line(words, "instruction", INSTRUCTION_FORMS)),
     };
     Ok(instruction.bytes())
 }
@@ -134,7 +134,7 @@ fn event(words: &[&str]) -> Result<[u8; EVENT_BYTES], String> {
         ["BSTEP", word] => Event::BStep { word: number(word)? },
         ["BEND", word] => Event::BEnd { word: number(word)? },
         ["BINT", status, operation, data] => return interrupt(11, [status, operation, data]),
-        _ => return Err(wrong_line(words, "event", &EVENT_FORMS)),
+        _ => return Err(wrong_line(words, "event", EVENT_FORMS)),
     };
     Ok(event.bytes())
 }
