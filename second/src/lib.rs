@@ -3,14 +3,15 @@
 //!
 //! The machine: `instruction`, `interrupt`, `guest`; `event`, `message`, `pair`; the events in
 //! `step`, `card_p`, `link`, `card_b`; `sound`. One card in the place of two: `lone`, `one_card`.
-//! The stored forms: `image`, `runfile`. A run told again: `retell`. The programs: `bench`,
-//! `probe`, `text`, `generate`, `check`.
+//! The stored forms: `image`, `runfile`. A run told again: `retell`, `reason`. The programs:
+//! `bench`, `probe`, `text`, `draw`, `generate`, `check`.
 
 pub mod bench;
 pub mod bytes;
 pub mod card_b;
 pub mod card_p;
 pub mod check;
+pub mod draw;
 pub mod event;
 pub mod generate;
 pub mod guest;
@@ -24,6 +25,7 @@ pub mod numbers;
 pub mod one_card;
 pub mod pair;
 pub mod probe;
+pub mod reason;
 pub mod refusal;
 pub mod retell;
 pub mod runfile;

@@ -8,7 +8,10 @@ use std::process::ExitCode;
 
 use second::check::Tried;
 use second::runfile::LONGEST_FILE;
-use second::{bench, check, generate, probe, text};
+use second::{bench, check, draw, generate, probe, text};
+
+/// A text of the longest run file with room for comments.
+const LONGEST_TEXT: usize = 1 << 20;
 
 const USAGE: &str = "usage:
   second bench < FILE.run
@@ -16,6 +19,7 @@ const USAGE: &str = "usage:
   second generate runs|requests|limit SEED COUNT DIR
   second text pack FILE.txt > FILE.run
   second text unpack FILE.run > FILE.txt
+  second draw < FILE.run > FILE.svg
   second check SEED COUNT";
 
 fn main() -> ExitCode {
@@ -32,8 +36,9 @@ fn main() -> ExitCode {
 
 fn run(words: &[&str]) -> Result<(), String> {
     match *words {
-        ["bench"] => run_bench().map_err(|error| error.to_string()),
+        ["bench"] => print_out(bench::bench(&read_input(LONGEST_FILE)?).as_bytes()),
         ["probe"] => run_probe().map_err(|error| error.to_string()),
+        ["draw"] => run_draw(),
         ["generate", kind, seed, count, directory] => {
             generate::generate(kind, number(seed)?, number(count)? as usize, Path::new(directory))
         }
@@ -54,11 +59,12 @@ fn run(words: &[&str]) -> Result<(), String> {
     }
 }
 
-/// One byte beyond the longest file is enough to see that the input is too long.
-fn run_bench() -> io::Result<()> {
-    let mut file = Vec::new();
-    io::stdin().lock().take(LONGEST_FILE as u64 + 1).read_to_end(&mut file)?;
-    io::stdout().lock().write_all(bench::bench(&file).as_bytes())
+fn run_draw() -> Result<(), String> {
+    let content = read_input(LONGEST_TEXT)?;
+    if content.len() > LONGEST_TEXT {
+        return Err(format!("longer than {LONGEST_TEXT} bytes: no run file, and no text of one"));
+    }
+    print_out(draw::draw(&content)?.as_bytes())
 }
 
 fn run_probe() -> io::Result<()> {
@@ -94,6 +100,17 @@ fn read_file(path: &str) -> Result<Vec<u8>, String> {
     fs::read(path).map_err(|error| format!("{path}: {error}"))
 }
 
+/// Standard input. One byte beyond the longest is enough to see that it is too long.
+fn read_input(longest: usize) -> Result<Vec<u8>, String> {
+    let mut content = Vec::new();
+    let mut input = io::stdin().lock().take(longest as u64 + 1);
+    input.read_to_end(&mut content).map_err(|error| format!("standard input: {error}"))?;
+    Ok(content)
+}
+
+/// Flushed here, where an output that is full or closed can still be told.
 fn print_out(bytes: &[u8]) -> Result<(), String> {
-    io::stdout().lock().write_all(bytes).map_err(|error| error.to_string())
+    let mut output = io::stdout().lock();
+    let written = output.write_all(bytes).and_then(|()| output.flush());
+    written.map_err(|error| format!("standard output: {error}"))
 }

@@ -144,7 +144,7 @@ fn past_the_stop(pair: &Pair) -> bool {
 }
 
 /// "TIME reads the first Val of B's epoch in the inbox [..], else the word (P6)."
-fn reading(pair: &Pair, word: u32) -> u32 {
+pub fn reading(pair: &Pair, word: u32) -> u32 {
     let val = pair.inbox.iter().find_map(|message| match *message {
         Message::Val { epoch, reading } if epoch == pair.e_b => Some(reading),
         _ => None,

@@ -14,4 +14,4 @@ pub mod pack;
 pub mod unpack;
 
 pub use pack::{pack, TextError};
-pub use unpack::unpack;
+pub use unpack::{event_line, unpack};

@@ -49,7 +49,8 @@ fn instruction_line(bytes: &[u8], n: u16) -> String {
     }
 }
 
-fn event_line(bytes: &[u8]) -> String {
+/// An event as a line of the text, without the room before it.
+pub fn event_line(bytes: &[u8]) -> String {
     let Some(event) = Event::read(bytes) else {
         return bytes_line(bytes);
     };
