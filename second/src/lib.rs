@@ -1,5 +1,5 @@
-//! The pair of document 01, written a second time from 01, READINGS and PROBE alone, so that its
-//! answers can be laid beside those of another program.
+//! The pair of document 01, written a second time from 01, READINGS and PROBE alone (and demand 3,
+//! for the lone card's history), so that its answers can be laid beside those of another program.
 //!
 //! The machine: `instruction`, `interrupt`, `guest`; `event`, `message`, `pair`; the events in
 //! `step`, `card_p`, `link`, `card_b`; `sound`. One card in the place of two: `lone`, `one_card`.

@@ -17,8 +17,8 @@ const USAGE: &str = "usage:
   second bench < FILE.run
   second probe < FILE.req
   second generate runs|requests|limit SEED COUNT DIR
-  second text pack FILE.txt > FILE.run
-  second text unpack FILE.run > FILE.txt
+  second text pack [FILE.txt] > FILE.run
+  second text unpack [FILE.run] > FILE.txt
   second draw < FILE.run > FILE.svg
   second check SEED COUNT";
 
@@ -38,33 +38,28 @@ fn run(words: &[&str]) -> Result<(), String> {
     match *words {
         ["bench"] => print_out(bench::bench(&read_input(LONGEST_FILE)?).as_bytes()),
         ["probe"] => run_probe().map_err(|error| error.to_string()),
-        ["draw"] => run_draw(),
+        ["draw"] => print_out(draw::draw(&read_content()?)?.as_bytes()),
         ["generate", kind, seed, count, directory] => {
             generate::generate(kind, number(seed)?, number(count)? as usize, Path::new(directory))
         }
-        ["text", "pack", file] => {
-            let content = read_file(file)?;
-            let content =
-                String::from_utf8(content).map_err(|_| format!("{file}: not UTF-8 text"))?;
-            let packed = text::pack(&content).map_err(|error| format!("{file}: {error}"))?;
-            print_out(&packed)
-        }
-        ["text", "unpack", file] => {
-            let unpacked = text::unpack(&read_file(file)?)
-                .map_err(|reason| format!("{file}: bad run file: {reason}"))?;
-            print_out(unpacked.as_bytes())
+        ["text", way @ ("pack" | "unpack")] => print_out(&turn(way, &read_content()?)?),
+        ["text", way @ ("pack" | "unpack"), file] => {
+            let turned = turn(way, &read_file(file)?);
+            print_out(&turned.map_err(|reason| format!("{file}: {reason}"))?)
         }
         ["check", seed, count] => run_check(number(seed)?, number(count)? as usize),
         _ => Err(USAGE.to_string()),
     }
 }
 
-fn run_draw() -> Result<(), String> {
-    let content = read_input(LONGEST_TEXT)?;
-    if content.len() > LONGEST_TEXT {
-        return Err(format!("longer than {LONGEST_TEXT} bytes: no run file, and no text of one"));
+/// Text to run file, or back.
+fn turn(way: &str, content: &[u8]) -> Result<Vec<u8>, String> {
+    if way == "pack" {
+        let content = std::str::from_utf8(content).map_err(|_| "not UTF-8 text")?;
+        return text::pack(content).map_err(|error| error.to_string());
     }
-    print_out(draw::draw(&content)?.as_bytes())
+    let text = text::unpack(content).map_err(|reason| format!("bad run file: {reason}"))?;
+    Ok(text.into_bytes())
 }
 
 fn run_probe() -> io::Result<()> {
@@ -98,6 +93,15 @@ fn number(word: &str) -> Result<u64, String> {
 
 fn read_file(path: &str) -> Result<Vec<u8>, String> {
     fs::read(path).map_err(|error| format!("{path}: {error}"))
+}
+
+/// A run file, or the text of one, on standard input.
+fn read_content() -> Result<Vec<u8>, String> {
+    let content = read_input(LONGEST_TEXT)?;
+    if content.len() > LONGEST_TEXT {
+        return Err(format!("longer than {LONGEST_TEXT} bytes: no run file, and no text of one"));
+    }
+    Ok(content)
 }
 
 /// Standard input. One byte beyond the longest is enough to see that it is too long.
