@@ -81,7 +81,7 @@ fn run_check(seed: u64, count: usize) -> Result<(), String> {
     }
     let Tried { runs, promoted, lone_steps, .. } = tried;
     lines.push_str(&format!(
-        "one card in the place of two: {lone_steps} steps, {runs} records, {promoted} past a promotion\n"
+        "lone card: {runs} records, {promoted} past a promotion, {lone_steps} steps\n"
     ));
     lines.push_str(&format!("{count} runs checked, nothing wrong\n"));
     print_out(lines.as_bytes())

@@ -7,14 +7,17 @@ use std::path::Path;
 use second::check::{check_file, Tried};
 use second::event::Event;
 use second::generate::programs::EXAMPLE;
+use second::guest::RecordEntry;
+use second::instruction::Device;
 use second::interrupt::{DeviceInterrupt, Interrupt, Outcome};
 use second::lone::{LoneCard, NotAllowed, Step};
 use second::numbers::Operation;
 use second::one_card::OneCard;
 use second::pair::Pair;
 use second::refusal::Refusal;
-use second::retell::retell;
+use second::retell::{retell, Moment};
 use second::runfile::{read, write_whole};
+use second::step::step;
 
 const REACHES: Step = Step::Instruction { word: 0, reaches: true };
 const REACHES_NOT: Step = Step::Instruction { word: 0, reaches: false };
@@ -197,6 +200,50 @@ fn what_was_relayed_and_the_clock_sent_are_the_lone_cards() {
     ];
     let expected = [REACHES_NOT, REACHES, interrupt(1, 1, 9), Step::Boundary { word: 30 }];
     assert_eq!(history(2, &EXAMPLE, &events), expected);
+}
+
+/// What is said of the last event, told with one thing changed in what it showed or left.
+fn told_wrongly(
+    events: &[Event],
+    change: impl Fn(&mut Pair, &mut Option<RecordEntry>),
+) -> Result<(), String> {
+    let mut pair = Pair::fresh(&EXAMPLE, 2).unwrap();
+    let mut one_card = OneCard::beside(&EXAMPLE, 2).unwrap();
+    for (place, event) in (1..).zip(events) {
+        let before = pair.clone();
+        let mut shown = step(&mut pair, &EXAMPLE, &event.bytes()).unwrap();
+        if place == events.len() {
+            change(&mut pair, &mut shown);
+        }
+        one_card.follow(&Moment { event: *event, before: &before, after: &pair, shown })?;
+    }
+    Ok(())
+}
+
+#[test]
+fn what_no_lone_card_leaves_is_seen() {
+    let switch = [PSTEP, PSTEP, Event::Fail, Event::Detect, bend(0), BSTEP, BSTEP, bend(0)];
+    let operation = Operation(1);
+    let entry = RecordEntry { operation, device: Device::new(2).unwrap(), word: 7 };
+    let unchanged = told_wrongly(&switch, |_, _| ());
+    assert_eq!(unchanged, Ok(()));
+    let hidden = told_wrongly(&switch[..2], |_, shown| *shown = None);
+    let shown_in_failover = told_wrongly(&switch[..7], |_, shown| *shown = Some(entry));
+    for reason in [hidden, shown_in_failover] {
+        assert!(
+            reason.as_ref().is_err_and(|words| words.contains("the record ends")),
+            "{reason:?}"
+        );
+    }
+    let without_p8 = told_wrongly(&switch, |pair, _| {
+        pair.b.queue.clear();
+        pair.b.table.push(operation);
+    });
+    assert!(without_p8.as_ref().is_err_and(|words| words.contains("guest")), "{without_p8:?}");
+    let done = DeviceInterrupt { operation, outcome: Outcome::Completed(9) };
+    let forgotten =
+        told_wrongly(&[PSTEP, PSTEP, Event::PInt(done)], |pair, _| pair.buffer_p.clear());
+    assert!(forgotten.as_ref().is_err_and(|words| words.contains("buffer")), "{forgotten:?}");
 }
 
 /// Every example's record, at every moment, is one that a single card could have left.

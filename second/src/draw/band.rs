@@ -1,6 +1,6 @@
 //! One band: the numbers of its events, the lanes of the cards, and the lane of the devices.
 
-use crate::draw::marks::{mark, stay_class};
+use crate::draw::marks::{block, mark};
 use crate::draw::page::{shown_lines, Band, Page, LABEL_STRIP, LEFT, LINE, MARK_STRIP};
 use crate::draw::scene::{Cell, Column, Role, Stay};
 use crate::draw::svg::{Font, Svg};
@@ -118,7 +118,7 @@ impl Lane<'_> {
         let left = self.band.x(self.page.edge(start));
         let width = self.band.x(self.page.edge(end)) - left;
         if let Some(stay) = stay {
-            svg.rect(stay_class(stay), (left, self.top), width, self.bottom - self.top);
+            block(svg, stay, (left, self.top), width, self.bottom - self.top);
         }
         let fits = |words: &&String| Font::Label.width(words) + 4 <= width;
         if let Some(words) = block_words(stay).iter().find(fits) {

@@ -1,6 +1,6 @@
 //! What the signs mean.
 
-use crate::draw::marks::{mark, stay_class, wire_class};
+use crate::draw::marks::{block, mark, wire_class};
 use crate::draw::page::{LEFT, RIGHT};
 use crate::draw::scene::{Mark, Role, Scene, Stay, WireKind};
 use crate::draw::svg::{Font, Place, Svg};
@@ -76,7 +76,7 @@ fn draw_sample(svg: &mut Svg, sample: &Sample, (x, y): Place, scene: &Scene) {
     match sample {
         Sample::Block(role) => {
             let stay = Stay { epoch: Epoch(1), role: *role };
-            svg.rect(stay_class(stay), (x, y - 6), SAMPLE_WIDTH, 12);
+            block(svg, stay, (x, y - 6), SAMPLE_WIDTH, 12);
         }
         Sample::Sign(sign) => mark(svg, *sign, (x + SAMPLE_WIDTH / 2, y)),
         Sample::Line(kind) => {

@@ -4,6 +4,9 @@ use crate::draw::page::MARK_STRIP;
 use crate::draw::scene::{Mark, Role, Stay, WireKind};
 use crate::draw::svg::{Place, Svg};
 
+/// From one stripe of the failover epoch to the next.
+const STRIPE: usize = 9;
+
 pub fn mark(svg: &mut Svg, mark: Mark, (x, y): Place) {
     match mark {
         Mark::Instruction => svg.path("k", &format!("M{x} {}v8", y - 4)),
@@ -46,8 +49,26 @@ pub fn wire_class(kind: WireKind) -> &'static str {
     }
 }
 
+/// The block of an epoch. Stripes are lines of their own: patterns are not drawn alike everywhere.
+pub fn block(svg: &mut Svg, stay: Stay, place: Place, width: i64, height: i64) {
+    svg.rect(stay_class(stay), place, width, height);
+    if stay.role == Role::Failover {
+        svg.path("stripes", &stripes(place, width, height));
+    }
+}
+
+/// Slanted lines, cut at the block's edges.
+fn stripes((x, y): Place, width: i64, height: i64) -> String {
+    let line = |along: i64| {
+        let (left, bottom) = ((along - height).max(0), along.min(height));
+        let (right, top) = (along.min(width), (along - width).max(0));
+        format!("M{} {}L{} {}", x + left, y + bottom, x + right, y + top)
+    };
+    (1..width + height).step_by(STRIPE).map(line).collect()
+}
+
 /// Epochs side by side differ in shade.
-pub fn stay_class(stay: Stay) -> &'static str {
+fn stay_class(stay: Stay) -> &'static str {
     match (stay.role, stay.epoch.0 % 2) {
         (Role::Drives, 0) => "drives0",
         (Role::Drives, _) => "drives1",

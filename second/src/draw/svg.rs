@@ -50,9 +50,10 @@ text{font-family:'DejaVu Sans Mono',Menlo,Consolas,'Liberation Mono',monospace;f
 .ft{font-size:16px;font-weight:bold}.fx{font-size:12px}.fl{font-size:11px;font-weight:bold}\
 .fc{font-size:10px}.fn{font-size:9px;fill:#555}.m{text-anchor:middle}\
 path,rect,circle{fill:none}\
-.drives0{fill:#cfe3f5;stroke:#34597c}.drives1{fill:#aecfec;stroke:#34597c}\
-.follows0{fill:#f4f4f0;stroke:#8b8b84}.follows1{fill:#e5e5de;stroke:#8b8b84}\
-.failover{fill:url(#hatch);stroke:#8a5a00}.outside{fill:#fff;stroke:#8b8b84;stroke-dasharray:3 3}\
+.drives0{fill:#c6dcf1;stroke:#2c4f70}.drives1{fill:#a6c9e8;stroke:#2c4f70}\
+.follows0{fill:#f7f7f4;stroke:#8b8b84}.follows1{fill:#ebebe5;stroke:#8b8b84}\
+.failover{fill:#fff6de;stroke:#8a5a00}.stripes{stroke:#ecd08a}\
+.outside{fill:#fff;stroke:#8b8b84;stroke-dasharray:3 3}\
 .lane{stroke:#b5b5ad}.shown{fill:#fff;stroke:#111}.drop{stroke:#999;stroke-dasharray:1 3}\
 .k{stroke:#111;stroke-width:1.4}.kf{fill:#111}.kh{fill:#fff;stroke:#111;stroke-width:1.2}\
 .stop{stroke:#b00000;stroke-width:3}.end{stroke:#111;stroke-width:2.2}\
@@ -122,9 +123,6 @@ impl Svg {
             "<svg xmlns=\"http://www.w3.org/2000/svg\" viewBox=\"0 0 {width} {height}\" \
              width=\"{width}\" height=\"{height}\" role=\"img\">\n\
              <title>{title}</title>\n<style>{STYLE}</style>\n<defs>\n\
-             <pattern id=\"hatch\" width=\"6\" height=\"6\" patternUnits=\"userSpaceOnUse\">\
-             <rect width=\"6\" height=\"6\" style=\"fill:#fff6de\"/>\
-             <path d=\"M0 6L6 0\" style=\"stroke:#f0d797;stroke-width:1.2\"/></pattern>\n\
              {heads}</defs>\n\
              <rect width=\"{width}\" height=\"{height}\" style=\"fill:#fff\"/>\n{body}</svg>\n"
         )
