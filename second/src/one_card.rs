@@ -50,12 +50,13 @@ impl OneCard {
     fn compare(&self, pair: &Pair) -> Result<(), String> {
         let record = &self.card.record;
         if record.len() != self.shown.len() || record.last() != self.shown.last() {
-            let (pairs, lone) = (self.shown.last(), record.last());
-            return Err(format!("the record ends in {pairs:?}, the lone card's in {lone:?}"));
+            let (pairs, lone) = (entry_words(self.shown.last()), entry_words(record.last()));
+            return Err(format!("the record ends in {pairs}, the lone card's in {lone}"));
         }
         match driving(pair) {
             Some((guest, _)) if *guest != self.card.guest => {
-                Err("the driving card's guest is not the lone card's".to_string())
+                let parts = different_parts(guest, &self.card.guest);
+                Err(format!("the driving card's guest is not the lone card's: {parts}"))
             }
             Some((_, buffer)) if *buffer != self.card.buffer => {
                 Err("the driving card's buffer is not the lone card's".to_string())
@@ -76,6 +77,33 @@ impl OneCard {
             Err("the whole history leaves another card or another record".to_string())
         }
     }
+}
+
+/// An entry as the bench prints it.
+fn entry_words(entry: Option<&RecordEntry>) -> String {
+    match entry {
+        Some(RecordEntry { operation, device, word }) => {
+            format!("`{} {} {word}`", operation.0, device.number())
+        }
+        None => "nothing".to_string(),
+    }
+}
+
+/// Where two guests differ, in 01's words.
+fn different_parts(one: &Guest, other: &Guest) -> String {
+    let counts = |guest: &Guest| (guest.instructions, guest.times);
+    let parts = [
+        ("pc", one.pc == other.pc),
+        ("epoch counts", counts(one) == counts(other)),
+        ("timer", one.timer == other.timer),
+        ("last number", one.last_operation == other.last_operation),
+        ("registers", one.registers == other.registers),
+        ("memory", one.memory == other.memory),
+        ("table", one.table == other.table),
+        ("queue", one.queue == other.queue),
+    ];
+    let different = parts.iter().filter(|(_, equal)| !equal).map(|(name, _)| *name);
+    different.collect::<Vec<&str>>().join(", ")
 }
 
 /// The guest and the buffer that are the lone card's: P's until the stop, B's from promotion on,
