@@ -1,3 +1,3 @@
+pub mod Lines
 pub mod Going
-pub mod Counting
 pub mod Exact

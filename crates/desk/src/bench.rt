@@ -1,97 +1,88 @@
 // The bench: 01, "The bench program reads a run file .., stops at the first refusal, prints a line per record entry (operation, device,
-// word, in decimal) and `end A C`: the refusal or 0, and the events taken."
+// word, in decimal) and `end A C`: the refusal or 0, and the events taken." What it prints is spelled at the front of a lent text.
 ghost use mathlib.Core.Path.{_≡_};
-ghost use Rattle.rules.specs.Bytes.{stepped};
+ghost use Prim.Native.Nat.{_≤_};
+ghost use lib.ListN.{length};
 ghost use Rattle.reader.specs.Events.{eventAt, eventCount};
+ghost use Rattle.rules.specs.Bytes.{stepped};
 ghost use Rattle.runfile.specs.RunFile.{readProgram};
-ghost use Rattle.desk.specs.Bench.{ended, takes, benchStart, benchEnd};
-use crate::print;
-use libc::STDOUT_FILENO;
+ghost use Rattle.text.specs.Lines.{entryLength};
+ghost use Rattle.text.specs.Spelled.{Spelled};
+ghost use Rattle.desk.specs.Bench.{Prints, benchStart, lines, printed, shownLine, stopped, takes};
 use rules::Answer;
 use rules::Outcome;
 use rules::Pair;
 use rules::Shown;
 
-// "`end A C`: the refusal or 0, and the events taken"
-pub struct Ended {
-    pub answer: u8,
-    pub taken: usize,
-}
+// The longest text that is printed of any run file: 4,096 record entries, and the end.
+pub const TEXT_LENGTH: usize = 86028;
 
-fn stop(answer: Answer, taken: usize) -> Ended
-    ensures { λ r. ⌜ r ≡ ended answer taken ⌝ }
+// `end A C`
+fn stop(text: &mut [u8], at: usize, answer: Answer, taken: usize) -> usize
+    ensures { λ r. ⌜ Spelled (now (text .entry)) at (lines (stopped answer taken)) (now (text .exit)) r ⌝ }
 {
-    let answer = answers::number(answer);
-    Ended { answer, taken }
+    text::put_end_line(text, at, answers::number(answer), taken)
 }
 
-// "prints a line per record entry"
-fn show(shown: Shown) {
+// "a line per record entry"
+fn show(text: &mut [u8], at: usize, shown: Shown) -> usize
+    ensures { λ r. ⌜ Spelled (now (text .entry)) at (shownLine shown) (now (text .exit)) r ⌝ }
+    ensures short { λ _. ⌜ length (shownLine shown) ≤ entryLength ⌝ }
+{
     match shown {
-        Shown::Entry(e) => {
-            print::entry(e);
-            print::line_end();
-        }
-        Shown::Nothing => {}
+        Shown::Entry(e) => text::put_entry_line(text, at, e.op.0, e.device, e.word),
+        Shown::Nothing => at,
     }
 }
 
-// The event at place n, on the pair; what it shows is printed.
+// The event at place n, on the pair.
 fn turn(file: &[u8], pair: Pair, n: usize) -> Outcome
     ensures { λ r. ⌜ r ≡ stepped (readProgram (now (file .entry))) pair (eventAt (now (file .entry)) n) ⌝ }
 {
-    let outcome = monitor::step(runfile::program(file), pair, reader::read_at(file, n));
-    let shown = outcome.shown;
-    show(shown);
-    outcome
+    monitor::step(runfile::program(file), pair, reader::read_at(file, n))
 }
 
 // The events of a run file, from a fresh pair on, until one is refused.
-fn take(file: &[u8], fresh: Pair) -> Ended
-    ensures { λ r. ⌜ r ≡ takes (now (file .entry)) fresh 0 (eventCount (now (file .entry))) ⌝ }
+fn take(file: &[u8], fresh: Pair, text: &mut [u8]) -> usize
+    ensures { λ r. ⌜ Prints (lines (takes (now (file .entry)) fresh 0 (eventCount (now (file .entry))))) (now (text .entry)) (now (text .exit)) r ⌝ }
 {
     let events = reader::count(file);
     let mut pair = fresh;
+    let mut at: usize = 0;
     for n in 0..events {
         let outcome = turn(file, pair, n);
         let answer = outcome.answer;
         match answer {
             Answer::Taken => {}
-            Answer::Refused(why) => return stop(Answer::Refused(why), n),
+            Answer::Refused(why) => return stop(text, at, Answer::Refused(why), n),
         }
+        let shown = outcome.shown;
+        at = show(text, at, shown);
         pair = outcome.pair;
     }
-    stop(Answer::Taken, events)
+    stop(text, at, Answer::Taken, events)
 }
 
 // A program and L are tried, and then the events.
-fn start(file: &[u8]) -> Ended
-    ensures { λ r. ⌜ r ≡ benchStart (now (file .entry)) ⌝ }
+fn start(file: &[u8], text: &mut [u8]) -> usize
+    ensures { λ r. ⌜ Prints (lines (benchStart (now (file .entry)))) (now (text .entry)) (now (text .exit)) r ⌝ }
 {
     let made = outcomes::set_up(runfile::program(file), runfile::limit(file));
     let answer = made.answer;
     match answer {
-        Answer::Taken => take(file, made.pair),
-        Answer::Refused(why) => stop(Answer::Refused(why), 0),
+        Answer::Taken => take(file, made.pair, text),
+        Answer::Refused(why) => stop(text, 0, Answer::Refused(why), 0),
     }
 }
 
-// Runs a run file: any bytes.
-pub fn run(file: &[u8]) -> Ended
-    ensures { λ r. ⌜ r ≡ benchEnd (now (file .entry)) ⌝ }
+// Runs a run file, any bytes, and spells what is printed of it at the front of the text. It answers how many bytes stand there: all that
+// are printed, where the text has TEXT_LENGTH bytes.
+pub fn run(file: &[u8], text: &mut [u8]) -> usize
+    ensures { λ r. ⌜ Prints (printed (now (file .entry))) (now (text .entry)) (now (text .exit)) r ⌝ }
 {
     let answer = runfile::check(file);
     match answer {
-        Answer::Taken => start(file),
-        Answer::Refused(why) => stop(Answer::Refused(why), 0),
+        Answer::Taken => start(file, text),
+        Answer::Refused(why) => stop(text, 0, Answer::Refused(why), 0),
     }
-}
-
-// `end A C`
-pub fn print_end(end: Ended) {
-    io::write_all(STDOUT_FILENO, b"end ");
-    print::number(end.answer as u64);
-    print::space();
-    print::number(end.taken as u64);
-    print::line_end();
 }

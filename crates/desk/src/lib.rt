@@ -1,3 +1,2 @@
 // What the programs at the test bench do.
 pub mod bench;
-pub mod print;

@@ -1,6 +1,6 @@
 // Requests, and the lines that answer them, as docs/PROBE.md has them.
 ghost use Rattle.io.specs.Counts.{Counts};
-use desk::print;
+use crate::print;
 use layout::IMAGE_LENGTH;
 use libc::STDIN_FILENO;
 use libc::STDOUT_FILENO;

@@ -1,5 +1,5 @@
 use borrow.Author.Needs.{needs}
-use Rattle.desk.proofs.Counting.{counts, counts-front}
+use Rattle.probe.proofs.Counting.{counts, counts-front}
 use Rattle.probe.proofs.requests.fill.Statement.{statement}
 use Rattle.probe.proofs.requests.fill.Tie as tie
 
