@@ -42,6 +42,7 @@ soundMessages =
       notInTable = refl;
       twice = refl;
       both = refl;
+      notInTableB = refl;
       kind5 = refl;
       epoch0 = refl;
       epoch65535 = refl;
@@ -76,9 +77,11 @@ unfolding the-guest the-pair the-trials
 soundPhases =
     record {
       limit0 = refl;
+      limit1 = refl;
       limit4096 = refl;
       limit4097 = refl;
       count0 = refl;
+      count1 = refl;
       count1024 = refl;
       count1025 = refl;
       epochP = refl;

@@ -2,6 +2,7 @@
 -- Form, flags and zero fields are an image's alone, and stand in crate layout.
 use mathlib.Core.{Bool.{false, true}, List.{[], _++_, _∷_, List, map}, Path._≡_}
 use Prim.Native.Nat.{ℕ}
+use borrow.Fn.PlainCycle.{is}
 use lib.ListN.{replicate, take}
 use Rattle.rules.specs.{Boundary.uncertain, Bytes.stepped, declared.{Guest.Guest, Interrupt.Interrupt, Message.Message, OpNo.OpNo, Pair.Pair, Phase.the-variants.{Failed, Running, Waiting}, Role.the-variants.{Failover, Following, Promoted}}, Guest.{fresh, withCounts, withLast, withQueue, withTable, withTimer}, GuestSlots.{zeroInterrupt, zeroOp}, Messages.{end, int, tme, val}, Pair.{ranOn, withAcks, withB, withCount, withDetected, withInbox, withLimit, withLink, withP, withPhase, withRole}, PairSlots.{laid, seen, soundPair, zeroMessage}, Sound.sound}
 use Rattle.slots.specs.{Slots.padded}
@@ -136,6 +137,7 @@ pub record SoundMessages : Type 0 where
   pub notInTable : Unsound (bufferP (status 1 3 9 ∷ []))
   pub twice : Unsound (bufferP (status 1 1 9 ∷ status 1 1 9 ∷ []))
   pub both : Sound (bufferP (status 1 2 9 ∷ status 1 1 9 ∷ []))
+  pub notInTableB : Unsound (withB promoted (record { guest = guestP; epoch = epochNo 5; buffer = status 1 3 9 ∷ [] }))
   -- "messages with kind 1 to 4, epoch 1 to 65,535"
   pub kind5 : Unsound (received1 5 0 2 0 0)
   pub epoch0 : Unsound (received1 1 0 0 0 7)
@@ -174,10 +176,12 @@ pub record SoundMessages : Type 0 where
 
 pub record SoundPhases : Type 0 where
   -- "L 1 to 4,096, N 1 to 1,024"
-  pub limit0 : Unsound (withLimit ((seen (pairAfter example 2 []))) 0)
+  pub limit0 : Unsound (withLimit (seen (pairAfter example 2 [])) 0)
+  pub limit1 : Sound (withLimit (seen (pairAfter example 2 [])) 1)
   pub limit4096 : Sound (withLimit (withPhase waiting Failed) 4096)
   pub limit4097 : Unsound (withLimit (withPhase waiting Failed) 4097)
-  pub count0 : Unsound (withCount ((seen (pairAfter example 2 []))) 0)
+  pub count0 : Unsound (withCount (seen (pairAfter example 2 [])) 0)
+  pub count1 : Sound (withCount (seen (pairAfter example 2 [])) 1)
   pub count1024 : Sound (withCount waiting 1024)
   pub count1025 : Unsound (withCount waiting 1025)
   -- "e_p 1 to 65,535"

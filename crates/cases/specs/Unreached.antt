@@ -2,6 +2,7 @@
 -- once it is promoted. The rules say what happens there too.
 use mathlib.Core.{Bool.true, List.{[], _∷_, List}, Path._≡_}
 use Prim.Native.Nat.{ℕ}
+use borrow.Fn.PlainCycle.{is}
 use Rattle.rules.specs.{declared.{Interrupt.Interrupt, Message.Message, Pair.Pair, Phase.the-variants.Failed, Role.{Role, the-variants.{Failover, Following, Promoted}}}, Guest.{reg, withCounts, withQueue}, Messages.{end, int, tme, val}, Pair.{withB, withDetected, withInbox, withPhase, withRole}, PairSlots.{laid, seen}}
 use Rattle.cases.specs.{Guest.status, Sound.{guestP, waiting}, Trials.{BEND, BSTEP, epochNo, Stand, stand, Trial, trialFrom}}
 

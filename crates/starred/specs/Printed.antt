@@ -4,7 +4,7 @@ use mathlib.Core.Path.{_≡_}
 use Prim.Native.Nat.{ℕ}
 use lib.ListN.{take}
 use Rattle.desk.specs.Bench.{printed}
-use Rattle.rules.specs.Cases.{DETECT, LINK, PSTEP, caseA, caseB, caseC, example}
+use Rattle.cases.specs.{Example.{caseA, caseB, caseC, example}, Trials.{DETECT, LINK, PSTEP}}
 use Rattle.runfile.specs.RunFile.{runBytes}
 use Rattle.words.specs.Arrays.{each}
 
@@ -12,7 +12,7 @@ use Rattle.words.specs.Arrays.{each}
 unfoldable pub fileOf : List (List ℕ) → List ℕ
 fileOf events = runBytes 2 example (each (λ e. e) events)
 
-pub record Cases : Type 0 where
+pub record Printed : Type 0 where
   -- "A: .. Bench prints exactly `1 2 7`, `2 2 7`, `end 0 13`"
   pub printsA : printed (fileOf caseA)
       ≡ 49 ∷ 32 ∷ 50 ∷ 32 ∷ 55 ∷ 10
