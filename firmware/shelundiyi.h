@@ -15,25 +15,31 @@ extern "C" {
 #define EVENT_BYTES 8
 #define ENTRY_BYTES 8
 
-/* What comes back: 0, or why it was refused. */
+/* What comes back: 0, or why it was refused, and what to do about it. Whatever is refused leaves every lent byte as it was; only
+ * pair_retire zeroes its store all the same. */
 enum {
-    PAIR_TAKEN = 0,
-    PAIR_MALFORMED = 1,
-    PAIR_DEAD = 2,
-    PAIR_OUT_OF_TURN = 3,
-    PAIR_MUST_WAIT = 4,
-    PAIR_UNKNOWN_OPERATION = 5,
-    PAIR_INBOX_FULL = 6,
-    PAIR_EPOCHS_USED_UP = 7,
-    PAIR_BAD_PROGRAM = 8,
-    PAIR_TOO_SHORT = 9,
-    PAIR_BAD_FILE = 10,
-    PAIR_UNSOUND = 11
+    PAIR_TAKEN = 0,             /* done */
+    PAIR_MALFORMED = 1,         /* the event is not 8 bytes, or not one of the eleven kinds in its form: mend whatever made it */
+    PAIR_DEAD = 2,              /* the first card has stopped for good: nothing more for it; go on with DETECT and the second card */
+    PAIR_OUT_OF_TURN = 3,       /* not at this point: the epoch is complete, or is not yet, or B has not entered one: another event is due */
+    PAIR_MUST_WAIT = 4,         /* what it needs has not come, or is still on its way: see to LINK, ACK or DETECT, and then again */
+    PAIR_UNKNOWN_OPERATION = 5, /* no such operation is outstanding, or its interrupt came before: drop the interrupt */
+    PAIR_INBOX_FULL = 6,        /* the second card has yet to read: BSTEP until its epoch is complete, then BEND, and LINK again */
+    PAIR_EPOCHS_USED_UP = 7,    /* epoch 65,535 is the last: the pair has come to its end; retire it and set up a fresh one */
+    PAIR_BAD_PROGRAM = 8,       /* the program or L is bad, or the program is not as long as the pair's: lend the one it was set up with */
+    PAIR_TOO_SHORT = 9,         /* a lent buffer is too short for what is to be stored there: lend a longer one, and call again */
+    PAIR_BAD_FILE = 10,         /* not PAIR_BYTES bytes, so no image of a pair: lend exactly those */
+    PAIR_UNSOUND = 11           /* bytes that no pair has: the store was damaged or was never set up; retire it, or load a saved image */
 };
 
-/* One event (EVENT_BYTES bytes: kind, status, operation 2, word 4) on the pair in the store. A store that is not PAIR_BYTES long answers 10,
- * one that holds no sound pair 11, room for less than ENTRY_BYTES 9; then the event's own answer. Refused, neither store nor entry is touched.
- * Taken, the store holds the next pair, and the entry what the devices are shown (operation 2, device 1, zero 1, word 4), zeros for nothing. */
+/* One event (EVENT_BYTES bytes: kind, status, operation 2, word 4) on the pair in the store. It is refused, in this order: 1 for the event; 10
+ * for a store that is not PAIR_BYTES long; 11 for a store that holds no sound pair; 8 for a program that is not as long as the pair's; 2 to 7,
+ * as the event's kind has it; 8 for the instruction that is to run; and last 9, where an entry is to be stored and entry_length is below
+ * ENTRY_BYTES. Refused, neither store nor entry is touched: after a 9 the same event may be given again with room.
+ *
+ * Taken, the store holds the next pair, and the entry what the devices are shown: operation 2 bytes, device 1, zero 1, word 4. Its operation is
+ * never 0. Where nothing is shown the 8 bytes are 0; the entry may then be shorter than ENTRY_BYTES, even of length 0, and as many bytes
+ * as it has become 0. Only PSTEP and BSTEP ever show something. Bytes of the entry behind the first 8 stay as they were. */
 unsigned char pair_step(const unsigned char *program, unsigned long program_length, unsigned char *store, unsigned long store_length,
                         const unsigned char *event, unsigned long event_length, unsigned char *entry, unsigned long entry_length);
 

@@ -1,2 +1,3 @@
 pub mod Outcomes
+pub mod Promises
 pub mod Exact

@@ -2,13 +2,17 @@
 // `firmware/build` makes the archive, and firmware/shelundiyi.h declares the functions.
 ghost use mathlib.Core.Path.{_≡_};
 ghost use Rattle.words.specs.Wrote.{Wrote};
-ghost use Rattle.rules.specs.PairSlots.{answerNumber};
+ghost use Rattle.layout.specs.Image.{imageAt};
+ghost use Rattle.rules.specs.Bytes.{applyRead, readEvent};
+ghost use Rattle.rules.specs.PairSlots.{answerNumber, outcome};
 ghost use Rattle.image.specs.Stores.{loaded};
-ghost use Rattle.firmware.specs.Firmware.{entryBytes, entryOf, steppedIn, applied, Stepped, SavedFrom, RetiredStore};
+ghost use Rattle.firmware.specs.Firmware.{illFormed, entryBytes, entryOf, inRoom, applied, Stepped, SavedFrom, RetiredStore};
+use layout::IMAGE_LENGTH;
 use rules::Answer;
 use rules::OpNo;
 use rules::Outcome;
 use rules::Pair;
+use rules::Reading;
 use rules::RecordEntry;
 use rules::Refusal;
 use rules::Shown;
@@ -39,39 +43,64 @@ fn put_entry(e: RecordEntry, entry: &mut [u8])
     words::put32(entry, 4, e.word);
 }
 
-// An event, where there is room for its record entry; else 9, and nothing is done.
-fn step_in(room: usize, program: &[u8], pair: Pair, event: &[u8]) -> Outcome
-    ensures { λ r. ⌜ r ≡ steppedIn room (now (program .entry)) pair (now (event .entry)) ⌝ }
+// "malformed event, or not 8 bytes"
+fn ill_formed(event: &[u8]) -> bool
+    ensures { λ r. ⌜ r ≡ illFormed (readEvent (now (event .entry))) ⌝ }
 {
-    if room < ENTRY_LENGTH {
-        return outcomes::refused(pair, Refusal::TooShort);
-    }
-    monitor::step(program, pair, event)
-}
-
-// The pair in a store is loaded, and the event applied to it.
-fn apply(room: usize, program: &[u8], store: &[u8], event: &[u8]) -> Outcome
-    ensures { λ r. ⌜ r ≡ applied room (now (program .entry)) (now (store .entry)) (now (event .entry)) ⌝ }
-{
-    let loaded = image::load(store);
-    let answer = loaded.answer;
-    match answer {
-        Answer::Taken => step_in(room, program, loaded.pair, event),
-        Answer::Refused(_) => loaded,
+    let read = event::read_event(event);
+    match read {
+        Reading::WellFormed(ev) => event::malformed(ev),
+        Reading::IllFormed => true,
     }
 }
 
-// One event on the pair in the store: 10 or 11 for a store that is no image of a sound pair, 9 where the entry's room is too short, else
-// what the event answers. Refused, neither store nor entry is touched; taken, the store has the next pair, and the entry its 8 bytes.
+// An event on a pair; then 9 where it shows an entry and there is no room for that.
+fn step_in(program: &[u8], pair: Pair, event: &[u8], room: usize) -> Outcome
+    ensures { λ r. ⌜ r ≡ outcome pair (inRoom room (applyRead (now (program .entry)) pair (readEvent (now (event .entry))))) ⌝ }
+{
+    let outcome = monitor::step(program, pair, event);
+    let shown = outcome.shown;
+    match shown {
+        Shown::Entry(_) => {
+            if room < ENTRY_LENGTH {
+                return outcomes::refused(pair, Refusal::TooShort);
+            }
+            outcome
+        }
+        Shown::Nothing => outcome,
+    }
+}
+
+// An event on the pair in a store: 1, 10, 11, and then what the event answers. Whether the pair of a fine image is sound is asked once, by
+// the step itself.
+fn apply(program: &[u8], store: &[u8], event: &[u8], room: usize) -> Outcome
+    ensures { λ r. ⌜ r ≡ outcome (imageAt (now (store .entry))) (applied (now (program .entry)) (now (store .entry)) (now (event .entry)) room) ⌝ }
+{
+    let pair = get_image::get(store);
+    if ill_formed(event) {
+        return outcomes::refused(pair, Refusal::Malformed);
+    }
+    if store.len() != IMAGE_LENGTH {
+        return outcomes::refused(pair, Refusal::BadFile);
+    }
+    if !fine_image::fine(store) {
+        return outcomes::refused(pair, Refusal::Unsound);
+    }
+    step_in(program, pair, event, room)
+}
+
+// One event on the pair in the store: 1; 10 for a store that is not an image long; 11; 8; the event's column; 8; and 9 where it shows an entry
+// that has no room. Refused, neither store nor entry is touched; taken, the store has the next pair, and the entry its 8 bytes or, where
+// nothing is shown, zeros for as many of them as it has.
 #[no_mangle]
 pub extern "C" fn pair_step(program: &[u8], store: &mut [u8], event: &[u8], entry: &mut [u8]) -> u8
     ensures { λ r. ⌜ Stepped (now (program .entry)) (now (store .entry)) (now (event .entry)) (now (entry .entry)) r (now (store .exit)) (now (entry .exit)) ⌝ }
 {
-    let outcome = apply(entry.len(), program, store, event);
+    let outcome = apply(program, store, event, entry.len());
     let answer = outcome.answer;
     match answer {
         Answer::Taken => {
-            image::save(outcome.pair, store);
+            image::fit(outcome.pair, store);
             let shown = outcome.shown;
             put_entry(entry_of(shown), entry);
             0
@@ -89,7 +118,7 @@ pub extern "C" fn pair_save(store: &[u8], buf: &mut [u8]) -> u8
     let answer = loaded.answer;
     match answer {
         Answer::Taken => {
-            let kept = image::save(loaded.pair, buf);
+            let kept = image::fit(loaded.pair, buf);
             answers::number(kept)
         }
         Answer::Refused(why) => answers::number(Answer::Refused(why)),

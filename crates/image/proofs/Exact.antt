@@ -2,9 +2,13 @@
 -- src/lib.rt, of the arguments a, the result r and what is left behind the references s.
 use mathlib.Core.Path.{_≡_, sym, _∙_}
 use denote.Ref.{now}
+use Rattle.image.proofs.fit.Reads as fit
 use Rattle.image.proofs.save.Reads as save
 use Rattle.image.proofs.load.Reads as load
 use Rattle.image.proofs.retire.Reads as retire
+
+pub fit-exact : (κs a r r′ s s′ : _) → fit.Post κs a r s → fit.Post κs a r′ s′ → (r ≡ r′) × (now (s .1 .0) ≡ now (s′ .1 .0))
+fit-exact κs a r r′ s s′ p q = (p .answer ∙ sym (q .answer), p .leaves ∙ sym (q .leaves))
 
 pub save-exact : (κs a r r′ s s′ : _) → save.Post κs a r s → save.Post κs a r′ s′ → (r ≡ r′) × (now (s .1 .0) ≡ now (s′ .1 .0))
 save-exact κs a r r′ s s′ p q = (p .answer ∙ sym (q .answer), p .leaves ∙ sym (q .leaves))

@@ -11,8 +11,9 @@ use rules::Pair;
 use rules::Refusal;
 use rules::Shown;
 
-// Writes the image of a pair at the front of the buffer where it has room for it; else 9, and nothing is written.
-fn fit(pair: Pair, buf: &mut [u8]) -> Answer
+// Writes the image of a pair at the front of the buffer where it has room for it; else 9, and nothing is written. Whether the pair is
+// sound is not asked: it is for those who know that it is.
+pub fn fit(pair: Pair, buf: &mut [u8]) -> Answer
     ensures { λ r. ⌜ Fitted pair (now (buf .entry)) r (now (buf .exit)) ⌝ }
 {
     if buf.len() < IMAGE_LENGTH {

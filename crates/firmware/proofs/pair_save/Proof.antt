@@ -4,7 +4,7 @@ use Rattle.firmware.proofs.pair_save.Statement.{statement}
 use Rattle.firmware.proofs.pair_save.Tie as tie
 
 returns : tie.Need-returns
-returns c = save-taken _ _ (c .before .before .before .before .before .before .before .load .ensures) (c .before .before .before .before .before .enum-told .given .1) (c .before .before .before .save .ensures) (c .number .ensures)
+returns c = save-taken _ _ (c .before .before .before .before .before .before .before .load .ensures) (c .before .before .before .before .before .enum-told .given .1) (c .before .before .before .fit .ensures) (c .number .ensures)
 
 returns-2 : tie.Need-returns-2
 returns-2 c = save-refused _ _ (c .before .before .before .before .load .ensures) (c .before .before .answer .given .1) (c .number2 .ensures)

@@ -1,10 +1,10 @@
-use borrow.Author.Needs.{needs}
 use Rattle.firmware.proofs.Outcomes.{step-refused, step-taken}
+use borrow.Author.Needs.{needs}
 use Rattle.firmware.proofs.pair_step.Statement.{statement}
 use Rattle.firmware.proofs.pair_step.Tie as tie
 
 returns : tie.Need-returns
-returns c = step-taken _ _ _ _ (c .before .before .before .before .before .before .before .before .before .before .before .apply .ensures) (c .before .before .before .before .before .before .before .before .before .enum-told .given .1) (c .before .before .before .before .before .before .before .save .ensures) (rw (c .before .before .before .before .entry-of .ensures) at (c .before .before .put-entry .ensures))
+returns c = step-taken _ _ _ _ (c .before .before .before .before .before .before .before .before .before .before .before .apply .ensures) (c .before .before .before .before .before .before .before .before .before .enum-told .given .1) (c .before .before .before .before .before .before .before .fit .ensures) (rw (c .before .before .before .before .entry-of .ensures) at (c .before .before .put-entry .ensures))
 
 returns-2 : tie.Need-returns-2
 returns-2 c = step-refused _ _ _ _ (c .before .before .before .before .apply .ensures) (c .before .before .answer .given .1) (c .number .ensures)
