@@ -16,7 +16,7 @@ use Rattle.slots.proofs.Tests.{and-true}
 use Rattle.outcomes.specs.Made.{blank, done}
 
 module _ (code : List ℕ) (l : ℕ) where
-  pub made-good : leb 1 l && leb l 4096 && goodProgram code (length code / 4) ≡ true → done (laid (blank 1 (length code / 4) l)) Nothing ≡ made (under code l)
+  pub made-good : leb 1 l && leb l 4096 && goodProgram code (length code / 4) ≡ true → done (laid (blank (record { 0 = 1 }) (length code / 4) l)) Nothing ≡ made (under code l)
   unfolding made setUp good under refuse stored outcome freshPair
   made-good h = rw h
 

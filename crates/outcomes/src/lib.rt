@@ -71,7 +71,7 @@ fn fresh_guest() -> Guest
 }
 
 // A pair in which nothing has happened: both guests fresh, P in the epoch given, B in epoch 0, following.
-fn blank(epoch: u16, n: u16, l: u16) -> Pair
+fn blank(epoch: EpochNo, n: u16, l: u16) -> Pair
     ensures { λ r. ⌜ r ≡ laidOf (blankOf epoch n l) ⌝ }
 {
     let guest = fresh_guest();
@@ -85,7 +85,7 @@ fn blank(epoch: u16, n: u16, l: u16) -> Pair
     };
     let p = Card {
         guest,
-        epoch: EpochNo(epoch),
+        epoch,
         buffer: held,
     };
     let b = Card {
@@ -113,7 +113,7 @@ fn blank(epoch: u16, n: u16, l: u16) -> Pair
 pub fn nothing() -> Pair
     ensures { λ r. ⌜ r ≡ zeroPair ⌝ }
 {
-    blank(0, 0, 0)
+    blank(EpochNo(0), 0, 0)
 }
 
 // Set-up: a program and L to a fresh pair, or 8 and zeros in its place.
@@ -124,7 +124,7 @@ pub fn set_up(program: &[u8], l: u16) -> Outcome
     let good = program::good_program(program);
     if (1 <= l) & (l <= 4096) & good {
         let count = n as u16;
-        return taken(blank(1, count, l), Shown::Nothing);
+        return taken(blank(EpochNo(1), count, l), Shown::Nothing);
     }
     refused(nothing(), Refusal::BadProgram)
 }

@@ -48,18 +48,18 @@ fn tight_table(xs: [OpNo; 16]) -> bool
 }
 
 // Ascending numbers, none above the last one given.
-fn rising(xs: [OpNo; 16], last: u16) -> bool
-    ensures { λ r. ⌜ r ≡ ascending 0 last (entries usedOp xs) ⌝ }
+fn rising(xs: [OpNo; 16], last: OpNo) -> bool
+    ensures { λ r. ⌜ r ≡ ascending 0 (last .0) (entries usedOp xs) ⌝ }
 {
-    let mut below: u16 = 0;
+    let mut below = OpNo(0);
     let mut i = 0;
     while i < 16 {
-        let x = xs[i].0;
+        let x = xs[i];
         i += 1;
-        if x == 0 {
+        if x.0 == 0 {
             return true;
         }
-        if (x <= below) | (last < x) {
+        if (x.0 <= below.0) | (last.0 < x.0) {
             return false;
         }
         below = x;
@@ -103,5 +103,5 @@ pub fn sound_guest(g: Guest, n: u16, l: u16) -> bool
         & (g.times <= 40)
         & ((g.times as u16) <= g.done);
     let room = (queue::timers(q) <= 1) & (table::count(t) + queue::devices(q) <= 16);
-    tight_table(t) & sound_queue(q) & scalars & rising(t, g.last.0) & room
+    tight_table(t) & sound_queue(q) & scalars & rising(t, g.last) & room
 }

@@ -31,7 +31,7 @@ falls n last o os h = go (leb (o .0) n) refl h
     go false e k = rw (lt-ltb n (o .0) (leb-false (o .0) n e), lt-leb (o .0) last (ltb-true last (o .0) k))
 
 abbrev Inv-loop : tie.InvT-loop
-Inv-loop last xs below₀ i₀ below i = (i ≤ 16) × (ascending 0 last (entries usedOp xs) ≡ ascending below last (entries usedOp (drop i xs)))
+Inv-loop last xs below₀ i₀ below i = (i ≤ 16) × (ascending 0 (last .0) (entries usedOp xs) ≡ ascending (below .0) (last .0) (entries usedOp (drop i xs)))
 
 abbrev μ-loop : tie.MeasureT-loop
 μ-loop last xs below₀ i₀ below i = 16 - i
@@ -41,17 +41,23 @@ loop-holds c = (search needs, refl)
 
 returns : tie.Need-returns Inv-loop μ-loop
 unfolding ascending
-returns c = sym (c .before .before .loop .inv .1 ∙ ap (ascending (c .before .before .loop .below) (c .before .before .before .args .last)) (entries-stop usedOp (c .before .before .before .args .t1) (c .before .before .loop .i) zeroOp (search needs) (is-free _ (c .if1 .taken))))
+returns c =
+    let l = c .before .before .before .before in
+    sym (l .loop .inv .1 ∙ ap (ascending (l .loop .below .0) (l .before .args .last .0)) (entries-stop usedOp (l .before .args .t1) (l .loop .i) zeroOp (search needs) (is-free _ (c .if1 .taken))))
 
 returns-2 : tie.Need-returns-2 Inv-loop μ-loop
-returns-2 c = sym (c .before .before .before .loop .inv .1 ∙ ap (ascending (c .before .before .before .loop .below) (c .before .before .before .before .args .last)) (entries-go usedOp (c .before .before .before .before .args .t1) (c .before .before .before .loop .i) zeroOp (search needs) (is-used _ (c .before .if1 .left))) ∙ falls _ _ _ _ (c .if2 .taken))
+returns-2 c =
+    let l = c .before .before .before .before .before .before .before .before .before in
+    sym (l .loop .inv .1 ∙ ap (ascending (l .loop .below .0) (l .before .args .last .0)) (entries-go usedOp (l .before .args .t1) (l .loop .i) zeroOp (search needs) (is-used _ (c .before .before .before .before .before .if1 .left))) ∙ falls _ _ _ _ (c .if2 .taken))
 
 loop-again : tie.Need-loop-again Inv-loop μ-loop
-loop-again c = (search needs, c .before .before .before .loop .inv .1 ∙ ap (ascending (c .before .before .before .loop .below) (c .before .before .before .before .args .last)) (entries-go usedOp (c .before .before .before .before .args .t1) (c .before .before .before .loop .i) zeroOp (search needs) (is-used _ (c .before .if1 .left))) ∙ rises _ _ _ _ _ refl (c .if2 .left))
+loop-again c =
+    let l = c .before .before .before .before .before .before .before .before .before in
+    (search needs, l .loop .inv .1 ∙ ap (ascending (l .loop .below .0) (l .before .args .last .0)) (entries-go usedOp (l .before .args .t1) (l .loop .i) zeroOp (search needs) (is-used _ (c .before .before .before .before .before .if1 .left))) ∙ rises _ _ _ _ _ refl (c .if2 .left))
 
 returns-3 : tie.Need-returns-3 Inv-loop μ-loop
 unfolding ascending
-returns-3 c = sym (c .before .loop .inv .1 ∙ ap (ascending (c .before .loop .below) (c .before .before .args .last)) (entries-end usedOp (c .before .before .args .t1) (c .before .loop .i) (search needs)))
+returns-3 c = sym (c .before .loop .inv .1 ∙ ap (ascending (c .before .loop .below .0) (c .before .before .args .last .0)) (entries-end usedOp (c .before .before .args .t1) (c .before .loop .i) (search needs)))
 
 pub rising-spec : {M : Type 1} → statement M
 rising-spec = tie.close (tie.spec Inv-loop μ-loop loop-holds (λ c. search needs) (λ c. search needs) (λ c. search needs) returns returns-2 (λ c. search needs) loop-again returns-3)
