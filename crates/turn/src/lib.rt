@@ -54,8 +54,8 @@ pub fn turned_last(g: Guest, e: EpochNo, inbox: [Message; 128], word: u32) -> Gu
     ensures { λ r. ⌜ r ≡ turnedLastIn e g (entries usedMessage inbox) word ⌝ }
 {
     let heard = deliver_ints(g, inbox, e);
-    // P8: "next an uncertain interrupt .. for each operation still in the table, ascending"
-    let told = boundary::tell_uncertain(heard);
     let clock = inbox::first_word(inbox, 3, e, word);
+    // P8: "next an uncertain interrupt .. for each operation still in the table, ascending"; the timer last
+    let told = boundary::tell_uncertain(heard);
     boundary::close(told, clock)
 }

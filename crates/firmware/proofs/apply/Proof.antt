@@ -1,8 +1,8 @@
 use mathlib.Core.Path.{ap, sym, _∙_}
 use borrow.Author.Tests.{not-false, not-true}
+use borrow.Author.Needs.{needs}
 use Rattle.rules.specs.PairSlots.{outcome}
 use Rattle.firmware.proofs.Outcomes.{front-fine, front-form, front-length, front-passed}
-use borrow.Author.Needs.{needs}
 use Rattle.firmware.proofs.apply.Statement.{statement}
 use Rattle.firmware.proofs.apply.Tie as tie
 

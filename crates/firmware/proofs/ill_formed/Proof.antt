@@ -1,6 +1,6 @@
 use mathlib.Core.Path.{ap, sym, _∙_}
-use Rattle.firmware.specs.Firmware.{illFormed}
 use borrow.Author.Needs.{needs}
+use Rattle.firmware.specs.Firmware.{illFormed}
 use Rattle.firmware.proofs.ill_formed.Statement.{statement}
 use Rattle.firmware.proofs.ill_formed.Tie as tie
 

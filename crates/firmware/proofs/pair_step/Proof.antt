@@ -1,5 +1,5 @@
-use Rattle.firmware.proofs.Outcomes.{step-refused, step-taken}
 use borrow.Author.Needs.{needs}
+use Rattle.firmware.proofs.Outcomes.{step-refused, step-taken}
 use Rattle.firmware.proofs.pair_step.Statement.{statement}
 use Rattle.firmware.proofs.pair_step.Tie as tie
 

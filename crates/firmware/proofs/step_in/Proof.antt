@@ -1,9 +1,9 @@
 use mathlib.Core.Path.{ap, sym, _∙_}
+use borrow.Author.Needs.{needs}
 use Rattle.rules.specs.Bytes.{stepped}
 use Rattle.rules.specs.PairSlots.{outcome}
 use Rattle.rules.specs.declared.Outcome.{Outcome}
 use Rattle.firmware.proofs.Outcomes.{room-any, room-enough, room-short}
-use borrow.Author.Needs.{needs}
 use Rattle.firmware.proofs.step_in.Statement.{statement}
 use Rattle.firmware.proofs.step_in.Tie as tie
 

@@ -6,7 +6,7 @@ use Rattle.turn.proofs.turned_last.Tie as tie
 
 returns : tie.Need-returns
 unfolding turnedLastIn
-returns c = rw (c .close .ensures, c .before .first-word .ensures, c .before .before .tell-uncertain .ensures, c .before .before .before .deliver-ints .ensures, word-tme)
+returns c = rw (← word-tme) (cc)
 
 pub turned-last-spec : {M : Type 1} → statement M
 turned-last-spec = tie.close (tie.spec (λ c κs. search needs) (λ c κs. search needs) (λ c κs. search needs) (λ c κs. search needs) returns)
