@@ -1,5 +1,5 @@
-# What the scripts share. A script sources this file with `me` set to its name, for its messages, and `top` to the repository's folder:
-# both as whole paths behind any symbolic link, so that neither the folder one stands in nor CDPATH matters.
+# What the scripts share. A script sources this file with `me` set to its name, for its messages, and `top` to the repository's folder: a
+# whole path, behind any symbolic link, so that neither the folder one stands in nor CDPATH matters.
 unset CDPATH
 die() { echo "$me: $*" >&2; exit 2; }
 
