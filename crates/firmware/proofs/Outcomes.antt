@@ -10,6 +10,7 @@ use lib.ListN.{drop-of-length-le, length}
 use Rattle.words.specs.Wrote.{Wrote}
 use Rattle.forms.specs.Lent.{whereTaken}
 use Rattle.layout.specs.Image.{imageAt, imageBytes, imageFine, imageLength, soundImage}
+use Rattle.rules.proofs.Answers.{taken-zero}
 use Rattle.rules.specs.Bytes.{applyRead, readEvent}
 use Rattle.rules.specs.Events.{Verdict, inFront, refuse, refused, taken}
 use Rattle.rules.specs.PairSlots.{answerNumber, apply, outcome, soundPair}
@@ -141,7 +142,7 @@ module _ (store buf : List ℕ) {l : Outcome} (e : l ≡ loaded store) where
   pub save-taken : {a : Answer} {r : ℕ} {left : List ℕ} → l .answer ≡ Taken → Fitted (l .pair) buf a left → r ≡ answerNumber a → SavedFrom store buf r left
   unfolding whereTaken
   save-taken {a = a} {left = left} t f n =
-      let u : soundPair (l .pair) ≡ true = rw e (accepted .sound store (rw e at t)) in
+      let u : soundPair (l .pair) ≡ true = rw e (accepted .sound store (taken-zero (rw e at t))) in
       let s : Saved (l .pair) buf a left = saved (l .pair) buf (ap not u) f in
       record {
         answer = n ∙ ap answerNumber (s .answer) ∙ (λ i. answerNumber (whereTaken (sym t i) (saveAnswer (l .pair) buf) (l .answer))) ∙ ap (λ (u : Outcome). answerNumber (whereTaken (u .answer) (saveAnswer (u .pair) buf) (u .answer))) e;

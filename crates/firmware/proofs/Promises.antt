@@ -9,20 +9,27 @@ use lib.Dec.{eqb}
 use lib.ListN.{drop-of-length-le, length}
 use Rattle.forms.specs.Lent.{refusing, whereTaken}
 use Rattle.layout.specs.Image.{imageAt, imageBytes, imageLength, soundImage}
+use Rattle.rules.proofs.Answers.{not-zero, taken-zero, zero-taken}
 use Rattle.rules.proofs.PairKept.{sound-apply}
 use Rattle.rules.proofs.Verdicts.{IfTaken}
 use Rattle.rules.specs.Bytes.{applyRead, readEvent, stepped}
 use Rattle.rules.specs.Events.{Verdict, refuse, refused, taken}
 use Rattle.rules.specs.PairSlots.{answerNumber, outcome, soundPair}
+use Rattle.rules.specs.declared.Answer.{Answer}
 use Rattle.rules.specs.declared.Answer.the-variants.{Taken}
 use Rattle.rules.specs.declared.Pair.{Pair}
 use Rattle.rules.specs.declared.Reading.{Reading}
 use Rattle.rules.specs.declared.Reading.the-variants.{IllFormed, WellFormed}
+use Rattle.rules.specs.declared.Refusal.the-variants.{BadFile, Unsound}
 use Rattle.image.proofs.Stores.{room-enough as room-fits}
 use Rattle.image.specs.Stores.{loaded, saveAnswer, saveLeaves}
 use Rattle.firmware.specs.Firmware.{answerOf, applied, entryLength, illFormed, storeAfter}
 use Rattle.firmware.specs.Promises.{AsLoadStepSave, LoadStepSave, inMemory}
 use Rattle.firmware.proofs.Outcomes.{room-enough}
+
+-- the same by 01's numbers
+numbered : {a b : Answer} → (a ≡ Taken → b ≡ Taken) → answerNumber a ≡ 0 → answerNumber b ≡ 0
+numbered {a = a} f q = taken-zero (f (zero-taken a q))
 
 -- saving a sound pair in the place of an image
 module _ (s : Pair) (store : List ℕ) (l : length store ≡ imageLength) (u : soundPair s ≡ true) where
@@ -77,14 +84,14 @@ module _ (code store event : List ℕ) (n : ℕ) (f : illFormed (readEvent event
         let made = sound-read code (imageAt store) (readEvent event) in
         record {
           answer = rw (← is-applied, ← is-in-memory) (answers (imageAt store) store l v);
-          saves = rw (← is-in-memory) (saves (imageAt store) store l v made);
+          saves = rw (← is-in-memory) (numbered (saves (imageAt store) store l v made));
           leaves = rw (← is-applied, ← is-in-memory) (leaves (imageAt store) store l v made);
         }
 
   by-the-tests : (a b : Bool) → eqb (length store) imageLength ≡ a → soundImage store ≡ b → LoadStepSave code store event n
   unfolding applied inMemory loaded refuse outcome whereTaken answerNumber answerOf storeAfter
-  by-the-tests false b h u = record { answer = rw (f, h); saves = rw h (λ q. cc); leaves = rw (f, h) }
-  by-the-tests true false h u = record { answer = rw (f, h, u); saves = rw (h, u) (λ q. cc); leaves = rw (f, h, u) }
+  by-the-tests false b h u = record { answer = rw (f, h); saves = rw h (λ q. absurd (let k = not-zero BadFile in omega arith)); leaves = rw (f, h) }
+  by-the-tests true false h u = record { answer = rw (f, h, u); saves = rw (h, u) (λ q. absurd (let k = not-zero Unsound in omega arith)); leaves = rw (f, h, u) }
   by-the-tests true true h u = on-an-image h u
 
 pub as-load-step-save : AsLoadStepSave

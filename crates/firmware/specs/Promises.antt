@@ -6,7 +6,6 @@ use Prim.Native.Nat.{ℕ, _≤_}
 use Rattle.forms.specs.Lent.{whereTaken}
 use Rattle.rules.specs.Bytes.{readEvent, stepped}
 use Rattle.rules.specs.PairSlots.{answerNumber}
-use Rattle.rules.specs.declared.Answer.the-variants.{Taken}
 use Rattle.rules.specs.declared.Outcome.{Outcome}
 use Rattle.image.specs.Stores.{loaded, saveAnswer, saveLeaves}
 use Rattle.firmware.specs.Firmware.{answerOf, applied, entryLength, illFormed, storeAfter}
@@ -19,7 +18,7 @@ inMemory code store event = let l = loaded store in whereTaken (l .answer) (step
 -- one; saving what an event made is never refused; and the store is left as saving leaves it.
 pub record LoadStepSave (code store event : List ℕ) (n : ℕ) : Type 0 where
   pub answer : answerOf (applied code store event n) ≡ answerNumber ((inMemory code store event) .answer)
-  pub saves : (inMemory code store event) .answer ≡ Taken → saveAnswer ((inMemory code store event) .pair) store ≡ Taken
+  pub saves : answerNumber ((inMemory code store event) .answer) ≡ 0 → answerNumber (saveAnswer ((inMemory code store event) .pair) store) ≡ 0
   pub leaves : storeAfter store (applied code store event n) ≡ whereTaken ((inMemory code store event) .answer) (saveLeaves ((inMemory code store event) .pair) store) store
 
 abbrev pub AsLoadStepSave : Type 0
