@@ -18,14 +18,14 @@ use rules::Shown;
 pub const TEXT_LENGTH: usize = 86028;
 
 // `end A C`
-fn stop(text: &mut [u8], at: usize, answer: Answer, taken: usize) -> usize
+pub fn stop(text: &mut [u8], at: usize, answer: Answer, taken: usize) -> usize
     ensures { λ r. ⌜ Spelled (now (text .entry)) at (lines (stopped answer taken)) (now (text .exit)) r ⌝ }
 {
     text::put_end_line(text, at, answers::number(answer), taken)
 }
 
 // "a line per record entry"
-fn show(text: &mut [u8], at: usize, shown: Shown) -> usize
+pub fn show(text: &mut [u8], at: usize, shown: Shown) -> usize
     ensures { λ r. ⌜ Spelled (now (text .entry)) at (shownLine shown) (now (text .exit)) r ⌝ }
     ensures short { λ _. ⌜ length (shownLine shown) ≤ entryLength ⌝ }
 {

@@ -1,0 +1,5 @@
+pub mod Lending
+pub mod Storing
+pub mod Looping
+pub mod Stretches
+pub mod Taking
