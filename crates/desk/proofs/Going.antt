@@ -23,7 +23,7 @@ use Rattle.text.specs.Spelled.{Spelled}
 use Rattle.desk.specs.Bench.{Prints, Run, benchRun, benchStart, stopped, goesOn, lines, mostEvents, printed, shownLine, shows, takes}
 use Rattle.desk.proofs.Lines.{ends-short, shown-first}
 
--- "events 0 to 32,768 [bytes] in eights", of any file
+-- "events 0 to 32,768 in eights", of any file
 pub few-events : (file : List ℕ) → eventCount file ≤ mostEvents
 few-events file = either (isRunFile file) refl
   where

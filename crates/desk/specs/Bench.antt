@@ -78,7 +78,7 @@ printed file = lines (benchRun file)
 
 -- ---- where it stands
 
--- "events 0 to 32,768 [bytes] in eights"
+-- "events 0 to 32,768 in eights": 8 bytes each
 abbrev pub mostEvents : ℕ
 mostEvents = 4096
 
