@@ -56,12 +56,10 @@ fn bad() {
     io::write_all(STDOUT_FILENO, b"bad\n");
 }
 
-// Answers a request whose parts stand at the fronts of three buffers: its line is written whole, or not at all.
+// Answers a request whose parts stand at the fronts of three buffers, and writes its line.
 fn answer(r: Request, a: &[u8], b: &mut [u8], c: &mut [u8], text: &mut [u8]) {
     let n = requests::answer(r.kind, r.limit, a, b, c, text);
-    if n < text.len() {
-        io::write_all(STDOUT_FILENO, &text[..n]);
-    }
+    io::write_all(STDOUT_FILENO, &text[..n]);
 }
 
 // The next request, answered: whether there may be another.
