@@ -1,6 +1,6 @@
 -- All cases.
 use Rattle.cases.specs.{Cases.Cases}
-use Rattle.cases.proofs.{Cards.{clocks, firstCard, inbox, secondCard, switching}, Example.checkedByExample, Guest.guestCases, LoneCard.loneCard, Order.{forms, numbers, order}, SettingUp.settingUp, Sound.{slots, soundGuests, soundMessages, soundPhases}, Unreached.unreached}
+use Rattle.cases.proofs.{Cards.{clocks, firstCard, inbox, secondCard, switching}, Example.checkedByExample, Guest.guestCases, LoneCard.loneCard, Order.{forms, kinds, numbers, order}, SettingUp.settingUp, Sound.{slots, soundGuests, soundMessages, soundPhases}, Unreached.unreached}
 
 pub cases : Cases
 cases =
@@ -9,6 +9,7 @@ cases =
       example = checkedByExample;
       settingUp = settingUp;
       numbers = numbers;
+      kinds = kinds;
       forms = forms;
       order = order;
       firstCard = firstCard;

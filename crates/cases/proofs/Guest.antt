@@ -9,6 +9,7 @@ arithmetic =
     record {
       division = refl;
       wraps = refl;
+      added = refl;
       below = refl;
       rounded = refl;
       set = refl;

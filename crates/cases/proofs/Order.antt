@@ -1,6 +1,6 @@
 -- The numbers, the form of an event, and the order of its refusals, by computation.
 use mathlib.Core.Path.{refl}
-use Rattle.cases.specs.Order.{Forms, Numbers, Order}
+use Rattle.cases.specs.Order.{Forms, Kinds, Numbers, Order}
 use Rattle.cases.proofs.Names.{the-guest, the-pair, the-trials}
 
 pub numbers : Numbers
@@ -19,6 +19,23 @@ numbers =
       tooShort = refl;
       badFile = refl;
       unsound = refl;
+    }
+
+pub kinds : Kinds
+unfolding the-guest the-pair the-trials
+kinds =
+    record {
+      pstep = refl;
+      pint = refl;
+      ptime = refl;
+      pend = refl;
+      link = refl;
+      ack = refl;
+      fail = refl;
+      detect = refl;
+      bstep = refl;
+      bend = refl;
+      bint = refl;
     }
 
 pub forms : Forms

@@ -36,6 +36,7 @@ pub record Arithmetic : Type 0 where
   -- "7 / 0 gives 4,294,967,295. 4,294,967,295 + 1 gives 0."
   pub division : register (Div 4 0 1) (busy []) 4 ≡ 4294967295
   pub wraps : register (Add 4 2 3) (busy []) 4 ≡ 0
+  pub added : register (Add 4 0 3) (busy []) 4 ≡ 8
   -- "modulo 2^32", below 0; "rounded down"; "256y + z"
   pub below : register (Sub 4 1 3) (busy []) 4 ≡ 4294967295
   pub rounded : register (Div 4 2 0) (busy []) 4 ≡ 613566756

@@ -2,7 +2,7 @@
 use mathlib.Core.{List.{[], _++_, _∷_, List}, Path._≡_}
 use Prim.Native.Nat.{ℕ}
 use lib.ListN.{replicate, take}
-use Rattle.rules.specs.{Bytes.readEvent, declared.{Answer.the-variants.Taken, Event.the-variants.PInt, Pair.Pair, Reading.the-variants.WellFormed, Refusal.the-variants.{BadFile, BadProgram, Dead, EpochsUsedUp, InboxFull, Malformed, MustWait, OutOfTurn, TooShort, UnknownOperation, Unsound}}, Events.number, Pair.{onB, onP}, PairSlots.{answerNumber, zeroPair}}
+use Rattle.rules.specs.{Bytes.readEvent, declared.{Answer.the-variants.Taken, Event.the-variants.{Ack, BEnd, BInt, BStep, Detect, Fail, Link, PEnd, PInt, PStep, PTime}, Pair.Pair, Reading.the-variants.WellFormed, Refusal.the-variants.{BadFile, BadProgram, Dead, EpochsUsedUp, InboxFull, Malformed, MustWait, OutOfTurn, TooShort, UnknownOperation, Unsound}}, Events.{kind, number}, Pair.{onB, onP}, PairSlots.{answerNumber, zeroPair}}
 use Rattle.cases.specs.{Example.{caseA, caseC, example}, Guest.status, Trials.{ACK, BEND, BINT, BSTEP, DETECT, eight, epochNo, FAIL, pairAfter, PEND, PINT, PSTEP, PTIME, Refuses, RefusesAfter, trialFrom}}
 
 -- ---- "Numbers that come back"
@@ -21,12 +21,26 @@ pub record Numbers : Type 0 where
   pub badFile : number BadFile ≡ 10
   pub unsound : number Unsound ≡ 11
 
+-- "kind" in the table of events
+pub record Kinds : Type 0 where
+  pub pstep : kind (PStep 0) ≡ 1
+  pub pint : kind (PInt (status 1 1 0)) ≡ 2
+  pub ptime : kind (PTime 0) ≡ 3
+  pub pend : kind PEnd ≡ 4
+  pub link : kind Link ≡ 5
+  pub ack : kind Ack ≡ 6
+  pub fail : kind Fail ≡ 7
+  pub detect : kind Detect ≡ 8
+  pub bstep : kind (BStep 0) ≡ 9
+  pub bend : kind (BEnd 0) ≡ 10
+  pub bint : kind (BInt (status 1 1 0)) ≡ 11
+
 -- ---- the form of an event: 1
 
 pub record Forms : Type 0 where
   -- the bytes of PINT, and what they say
-  pub bytes : PINT 1 257 65545 ≡ 2 ∷ 1 ∷ 1 ∷ 1 ∷ 9 ∷ 0 ∷ 1 ∷ 0 ∷ []
-  pub read : readEvent (2 ∷ 1 ∷ 1 ∷ 1 ∷ 9 ∷ 0 ∷ 1 ∷ 0 ∷ []) ≡ WellFormed (PInt (status 1 257 65545))
+  pub bytes : PINT 1 258 65545 ≡ 2 ∷ 1 ∷ 2 ∷ 1 ∷ 9 ∷ 0 ∷ 1 ∷ 0 ∷ []
+  pub read : readEvent (2 ∷ 1 ∷ 2 ∷ 1 ∷ 9 ∷ 0 ∷ 1 ∷ 0 ∷ []) ≡ WellFormed (PInt (status 1 258 65545))
   -- "or not 8 bytes": 7, 9, none
   pub short : Refuses example (pairAfter example 2 []) (take 7 (PSTEP 0)) 1
   pub long : Refuses example (pairAfter example 2 []) (PSTEP 0 ++ (0 ∷ [])) 1
