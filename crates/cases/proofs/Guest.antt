@@ -1,6 +1,6 @@
 -- The guest, by computation.
 use mathlib.Core.Path.{refl}
-use Rattle.cases.specs.Guest.{Arithmetic, Boundaries, Clock, Control, GuestCases, IllFormed, Starting, Taking, WellFormed}
+use Rattle.cases.specs.Guest.{Arithmetic, Boundaries, Clock, Control, GuestCases, IllFormed, Starting, Taking, WellFormed, Wholes}
 use Rattle.cases.proofs.Names.{the-guest, the-trials}
 
 pub arithmetic : Arithmetic
@@ -29,8 +29,6 @@ control =
       full = refl;
       thirtyNine = refl;
       forty = refl;
-      nop = refl;
-      done = refl;
     }
 
 pub clock : Clock
@@ -73,6 +71,22 @@ starting =
       lastTable = refl;
     }
 
+pub wholes : Wholes
+unfolding the-guest the-trials
+wholes =
+    record {
+      zeros = refl;
+      nop = refl;
+      set = refl;
+      store = refl;
+      take = refl;
+      time = refl;
+      start = refl;
+      timer = refl;
+      boundary = refl;
+      readers = refl;
+    }
+
 pub boundaries : Boundaries
 unfolding the-guest the-trials
 boundaries =
@@ -110,6 +124,13 @@ wellFormed =
       jump = refl;
       high = refl;
       take = refl;
+      addSevens = refl;
+      subSevens = refl;
+      divSevens = refl;
+      takeSevens = refl;
+      loadSevens = refl;
+      storeSevens = refl;
+      startSevens = refl;
       time = refl;
       start = refl;
       timer = refl;
@@ -144,4 +165,4 @@ illFormed =
     }
 
 pub guestCases : GuestCases
-guestCases = record { arithmetic = arithmetic; control = control; clock = clock; taking = taking; starting = starting; boundaries = boundaries; wellFormed = wellFormed; illFormed = illFormed }
+guestCases = record { arithmetic = arithmetic; control = control; clock = clock; taking = taking; starting = starting; wholes = wholes; boundaries = boundaries; wellFormed = wellFormed; illFormed = illFormed }

@@ -1,8 +1,8 @@
 -- The guest: each instruction, the boundary with a timer, and each rule of "Well formed".
-use mathlib.Core.{Bool.{false, true}, List.{[], _++_, _∷_, List, map}, Path._≡_}
+use mathlib.Core.{Bool.{Bool, false, true}, List.{[], _++_, _∷_, List, map}, Path._≡_}
 use Prim.Native.Nat.{suc, zero, ℕ}
 use lib.ListN.{getD, length, replicate}
-use Rattle.rules.specs.{Boundary.{boundary, deliver, failover}, declared.{Decoded.the-variants.Good, Guest.Guest, Instr.{Instr, the-variants.{Add, Div, Jz, Load, Nop, SetTo, Start, Store, Sub, Take, Time, Timer}}, Interrupt.Interrupt, OpNo.OpNo, Shown.the-variants.{Entry, Nothing}}, Decode.{decode, isBad}, Guest.{onward, reg, withCounts, withLast, withTable, withTimer}, Instruction.{complete, next, perform}}
+use Rattle.rules.specs.{Boundary.{boundary, deliver, failover}, declared.{Decoded.the-variants.Good, Guest.Guest, Instr.{Instr, the-variants.{Add, Div, Jz, Load, Nop, SetTo, Start, Store, Sub, Take, Time, Timer}}, Interrupt.Interrupt, OpNo.OpNo, Shown.the-variants.{Entry, Nothing}}, Decode.{decode, isBad}, Guest.{fresh, onward, reg, withCounts, withLast, withTable, withTimer}, Instruction.{complete, isTime, next, perform}}
 
 abbrev pub status : ℕ → ℕ → ℕ → Interrupt
 status s n w = record { status = s; op = record { 0 = n }; word = w }
@@ -22,6 +22,10 @@ busy q =
       table = record { 0 = 1 } ∷ record { 0 = 2 } ∷ [];
       queue = q;
     }
+
+-- a guest part by part: pc, instructions and TIMEs done; timer; registers and memory; last number, table and queue
+abbrev pub whole : ℕ → ℕ → ℕ → Bool → ℕ → List ℕ → List ℕ → ℕ → List OpNo → List Interrupt → Guest
+whole p d t a e rs ms n os q = record { pc = p; done = d; times = t; armed = a; deadline = e; regs = rs; mem = ms; last = record { 0 = n }; table = os; queue = q }
 
 -- what is in r[x] after the instruction, with clock reading 9
 unfoldable pub register : Instr → Guest → ℕ → ℕ
@@ -56,9 +60,6 @@ pub record Control : Type 0 where
   pub full : complete 3 (busy []) ≡ true
   pub thirtyNine : complete 50 (withCounts (busy []) 45 39) ≡ false
   pub forty : complete 50 (withCounts (busy []) 45 40) ≡ true
-  -- each instruction is counted, and NOP does nothing else
-  pub nop : (perform Nop (busy []) 5 9) .guest ≡ onward (busy []) 5
-  pub done : (onward (busy []) 5) .done ≡ 4
 
 pub record Clock : Type 0 where
   -- "r[x] = clock reading"
@@ -95,6 +96,23 @@ pub record Starting : Type 0 where
   pub timerBeside : (perform (Start 0 2 3) (withTable (busy (status 3 0 8 ∷ [])) (upTo 15)) 5 9) .guest .table ≡ upTo 15 ++ (record { 0 = 3 } ∷ [])
   pub last : (perform (Start 0 2 3) (withLast (busy []) (record { 0 = 65535 })) 5 9) .shown ≡ Nothing
   pub lastTable : (perform (Start 0 2 3) (withLast (busy []) (record { 0 = 65535 })) 5 9) .guest .table ≡ upTo 2
+
+-- The whole guest that each way of changing it leaves: what an instruction does not name stays
+pub record Wholes : Type 0 where
+  -- "Fresh: all zero"
+  pub zeros : fresh ≡ whole 0 0 0 false 0 (replicate 8 0) (replicate 64 0) 0 [] []
+  pub nop : (perform Nop (busy []) 5 9) .guest ≡ whole 5 4 1 true 5 (7 ∷ 0 ∷ 4294967295 ∷ 1 ∷ 0 ∷ 0 ∷ 0 ∷ 0 ∷ []) (replicate 64 0) 2 (upTo 2) []
+  pub set : (perform (SetTo 4 9) (busy []) 5 9) .guest ≡ whole 5 4 1 true 5 (7 ∷ 0 ∷ 4294967295 ∷ 1 ∷ 9 ∷ 0 ∷ 0 ∷ 0 ∷ []) (replicate 64 0) 2 (upTo 2) []
+  pub store : (perform (Store 0 2) (busy []) 5 9) .guest ≡ whole 5 4 1 true 5 (7 ∷ 0 ∷ 4294967295 ∷ 1 ∷ 0 ∷ 0 ∷ 0 ∷ 0 ∷ []) (replicate 63 0 ++ (7 ∷ [])) 2 (upTo 2) []
+  pub take : (perform (Take 4 5 6) (busy (status 1 3 8 ∷ [])) 5 9) .guest ≡ whole 5 4 1 true 5 (7 ∷ 0 ∷ 4294967295 ∷ 1 ∷ 1 ∷ 3 ∷ 8 ∷ 0 ∷ []) (replicate 64 0) 2 (upTo 2) []
+  pub time : (perform (Time 4) (busy []) 5 9) .guest ≡ whole 5 4 2 true 5 (7 ∷ 0 ∷ 4294967295 ∷ 1 ∷ 9 ∷ 0 ∷ 0 ∷ 0 ∷ []) (replicate 64 0) 2 (upTo 2) []
+  pub start : (perform (Start 0 2 4) (busy []) 5 9) .guest ≡ whole 5 4 1 true 5 (7 ∷ 0 ∷ 4294967295 ∷ 1 ∷ 3 ∷ 0 ∷ 0 ∷ 0 ∷ []) (replicate 64 0) 3 (upTo 3) []
+  pub timer : (perform (Timer 0) (busy []) 5 9) .guest ≡ whole 5 4 1 true 7 (7 ∷ 0 ∷ 4294967295 ∷ 1 ∷ 0 ∷ 0 ∷ 0 ∷ 0 ∷ []) (replicate 64 0) 2 (upTo 2) []
+  pub boundary : boundary (status 1 1 9 ∷ []) 5 (busy []) ≡ whole 4 0 0 false 0 (7 ∷ 0 ∷ 4294967295 ∷ 1 ∷ 0 ∷ 0 ∷ 0 ∷ 0 ∷ []) (replicate 64 0) 2 (record { 0 = 2 } ∷ []) (status 1 1 9 ∷ status 3 0 5 ∷ [])
+  -- only TIME reads the clock
+  pub readers :
+      map isTime (Nop ∷ SetTo 0 0 ∷ Add 0 0 0 ∷ Sub 0 0 0 ∷ Div 0 0 0 ∷ Load 0 0 ∷ Store 0 0 ∷ Jz 0 0 ∷ Take 0 0 0 ∷ Time 0 ∷ Start 0 0 0 ∷ Timer 0 ∷ [])
+      ≡ replicate 9 false ++ (true ∷ false ∷ false ∷ [])
 
 pub record Boundaries : Type 0 where
   -- a failover boundary: the completion of 1, 2 uncertain, and the timer that is due, in this order
@@ -133,6 +151,13 @@ pub record WellFormed : Type 0 where
   pub jump : decode 7 7 0 8 9 ≡ Good (Jz 7 8)
   pub high : decode 7 7 1 2 259 ≡ Good (Jz 7 258)
   pub take : decode 8 5 6 7 9 ≡ Good (Take 5 6 7)
+  pub addSevens : decode 2 7 7 7 9 ≡ Good (Add 7 7 7)
+  pub subSevens : decode 3 7 7 7 9 ≡ Good (Sub 7 7 7)
+  pub divSevens : decode 4 7 7 7 9 ≡ Good (Div 7 7 7)
+  pub takeSevens : decode 8 7 7 7 9 ≡ Good (Take 7 7 7)
+  pub loadSevens : decode 5 7 7 0 9 ≡ Good (Load 7 7)
+  pub storeSevens : decode 6 7 7 0 9 ≡ Good (Store 7 7)
+  pub startSevens : decode 17 7 3 7 9 ≡ Good (Start 7 3 7)
   pub time : decode 16 7 0 0 9 ≡ Good (Time 7)
   pub start : decode 17 6 3 7 9 ≡ Good (Start 6 3 7)
   pub timer : decode 18 7 0 0 9 ≡ Good (Timer 7)
@@ -185,6 +210,7 @@ pub record GuestCases : Type 0 where
   pub clock : Clock
   pub taking : Taking
   pub starting : Starting
+  pub wholes : Wholes
   pub boundaries : Boundaries
   pub wellFormed : WellFormed
   pub illFormed : IllFormed
