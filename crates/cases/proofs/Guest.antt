@@ -157,6 +157,7 @@ illFormed =
       timer = refl;
       device = refl;
       target = refl;
+      highTarget = refl;
       nopUnused = refl;
       loadUnused = refl;
       storeUnused = refl;

@@ -2,7 +2,7 @@
 use Prim.Native.Nat.{ℕ}
 use Rattle.slots.specs.Slots.{any, entries, every, folded, keep, padded, without}
 use Rattle.rules.specs.{Boundary.{boundary, deliver, due, failover, restart, rings, tellUncertain, timer, told}, Bytes.{applyRead, eventOf, heard, readEvent, stepped}, Decode.{allow, decode, fetch, instrOf, isBad}, Events.{ended, handle, inFront, kind, linked, malformed, number, refuse, sends, setUp, turned, turnedLast, unread}, Guest.{fresh, listed, opsOf}, GuestSlots.{laidGuest, seenGuest, tightGuest}, GuestSound.{ascending, proper, says, soundEntry, soundGuest}, History.recorded, Instruction.{cannotStart, complete, isTime, moved, next, oldest, perform, quotient, start, starts, take}, Lone.{freshLone, isShown, loneStep, loneSteps, mayRun, mayTell, reached}, Messages.{dropEpoch, dropVal, end, first, gather, hasEnd, int, intOf, interruptOf, ints, isEnd, ofEpoch, ofKind, only, place, tme, tmeOf, tmes, val, valOf, vals}, Pair.{acknowledged, awaited, buffers, clockSent, enters, freshPair, halted, isFailed, isFollowing, isPromoted, isWaiting, noticed, onB, onP, ranOn, received, setupOf}, PairSlots.{answerNumber, apply, laid, laidCard, made, outcome, seen, seenCard, soundPair, stored, tightCard, tightPair, zeroPair}, Program.{atTime, bad, exec, good, goodProgram, goodUpTo, instr, under}, Sound.{extra, once, sound, soundBuffer, soundLimits, soundMessage, soundTurns, soundWires}}
-use Rattle.cases.specs.{Cards.{alarmEpoch, alarms, bSteps, clocked, dueAtFailover, following, intoEpoch2, lagging, onEntry2, promotion, rung, starter, stopWaiting, toldWaiting, waitingInInbox, wholeEpoch}, Example.{arithmetic, caseA, caseB, caseC, example}, Guest.{busy, register, upTo}, LoneCard.{loneAfter, loneEpoch, loneRecord}, Order.{bInEpoch, pInEpoch, rubbish}, SettingUp.nopsAnd, Sound.{guestP, idling, inInbox, most, onLink, promoted, waiting}, Trials.{eight, goOn, printed, repeated, stages, stand, standing, trial, trialFrom}, Unreached.{afterOne, clockwork, holding, leftBy, mixed, ofThree, readFrom}}
+use Rattle.cases.specs.{Cards.{alarmEpoch, alarms, bSteps, clocked, dueAtFailover, following, intoEpoch2, lagging, onEntry2, promotion, rung, starter, stopWaiting, toldWaiting, waitingInInbox, wholeEpoch}, Example.{arithmetic, caseA, caseB, caseC, example}, Guest.{busy, register, upTo}, LoneCard.{loneAfter, loneEpoch, loneRecord}, Order.{bInEpoch, badAt, pInEpoch, rubbish}, SettingUp.nopsAnd, Sound.{guestP, idling, inInbox, most, onLink, promoted, waiting}, Trials.{eight, goOn, printed, repeated, stages, stand, standing, trial, trialFrom}, Unreached.{afterOne, clockwork, holding, leftBy, mixed, ofThree, readFrom}}
 
 -- one instruction, the boundary, a guest's soundness and its slots
 unfoldable pub the-guest : ℕ
@@ -21,5 +21,5 @@ the-lone-card = 0
 
 -- events and trials
 unfoldable pub the-trials : ℕ
-unfolding eight goOn trialFrom trial printed stand standing stages repeated busy register upTo example caseA caseB caseC arithmetic nopsAnd clocked wholeEpoch toldWaiting bSteps following intoEpoch2 onEntry2 lagging alarms alarmEpoch rung dueAtFailover stopWaiting starter promotion waitingInInbox rubbish pInEpoch bInEpoch guestP onLink inInbox waiting promoted idling most clockwork holding afterOne readFrom leftBy mixed ofThree loneAfter loneRecord loneEpoch
+unfolding eight goOn trialFrom trial printed stand standing stages repeated busy register upTo example caseA caseB caseC arithmetic nopsAnd clocked wholeEpoch toldWaiting bSteps following intoEpoch2 onEntry2 lagging alarms alarmEpoch rung dueAtFailover stopWaiting starter promotion waitingInInbox rubbish badAt pInEpoch bInEpoch guestP onLink inInbox waiting promoted idling most clockwork holding afterOne readFrom leftBy mixed ofThree loneAfter loneRecord loneEpoch
 the-trials = 0

@@ -13,5 +13,6 @@ unreached =
       follows = refl;
       fails = refl;
       promoted = refl;
+      buffered = refl;
       begins = refl;
     }

@@ -2,7 +2,7 @@
 use mathlib.Core.{Bool.{Bool, false, true}, List.{[], _++_, _∷_, List, map}, Path._≡_}
 use Prim.Native.Nat.{suc, zero, ℕ}
 use lib.ListN.{getD, length, replicate}
-use Rattle.rules.specs.{Boundary.{boundary, deliver, failover}, declared.{Decoded.the-variants.Good, Guest.Guest, Instr.{Instr, the-variants.{Add, Div, Jz, Load, Nop, SetTo, Start, Store, Sub, Take, Time, Timer}}, Interrupt.Interrupt, OpNo.OpNo, Shown.the-variants.{Entry, Nothing}}, Decode.{decode, isBad}, Guest.{fresh, onward, reg, withCounts, withLast, withTable, withTimer}, Instruction.{complete, isTime, next, perform}}
+use Rattle.rules.specs.{Boundary.{boundary, deliver, failover}, declared.{Decoded.the-variants.{Bad, Good}, Guest.Guest, Instr.{Instr, the-variants.{Add, Div, Jz, Load, Nop, SetTo, Start, Store, Sub, Take, Time, Timer}}, Interrupt.Interrupt, OpNo.OpNo, Shown.the-variants.{Entry, Nothing}}, Decode.{decode, isBad}, Guest.{fresh, onward, reg, withCounts, withLast, withTable, withTimer}, Instruction.{complete, isTime, next, perform}}
 
 abbrev pub status : ℕ → ℕ → ℕ → Interrupt
 status s n w = record { status = s; op = record { 0 = n }; word = w }
@@ -197,6 +197,7 @@ pub record IllFormed : Type 0 where
   -- "device below 4, jump target below N"
   pub device : Ill 17 ((0, 4, 0) ∷ [])
   pub target : Ill 7 ((0, 0, 9) ∷ (0, 1, 0) ∷ [])
+  pub highTarget : decode 7 0 1 3 259 ≡ Bad
   -- "unused bytes 0"
   pub nopUnused : Ill 0 oneIn
   pub loadUnused : Ill 5 ((0, 0, 1) ∷ [])

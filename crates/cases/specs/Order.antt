@@ -1,7 +1,7 @@
 -- The numbers that come back, the form of an event, and the order of its refusals.
 use mathlib.Core.{List.{[], _++_, _∷_, List}, Path._≡_}
-use Prim.Native.Nat.{ℕ}
-use lib.ListN.{replicate, take}
+use Prim.Native.Nat.{_*_, suc, ℕ}
+use lib.ListN.{drop, replicate, take}
 use Rattle.rules.specs.{Bytes.readEvent, declared.{Answer.the-variants.Taken, Event.the-variants.{Ack, BEnd, BInt, BStep, Detect, Fail, Link, PEnd, PInt, PStep, PTime}, Pair.Pair, Reading.the-variants.WellFormed, Refusal.the-variants.{BadFile, BadProgram, Dead, EpochsUsedUp, InboxFull, Malformed, MustWait, OutOfTurn, TooShort, UnknownOperation, Unsound}}, Events.{kind, number}, Pair.{onB, onP}, PairSlots.{answerNumber, zeroPair}}
 use Rattle.cases.specs.{Example.{caseA, caseC, example}, Guest.status, Trials.{ACK, BEND, BINT, BSTEP, DETECT, eight, epochNo, FAIL, pairAfter, PEND, PINT, PSTEP, PTIME, Refuses, RefusesAfter, trialFrom}}
 
@@ -66,6 +66,10 @@ pub record Forms : Type 0 where
 unfoldable pub rubbish : List ℕ
 rubbish = replicate 20 255
 
+-- `example` with instruction n bad
+unfoldable pub badAt : ℕ → List ℕ
+badAt n = take (4 * n) example ++ replicate 4 255 ++ drop (4 * suc n) example
+
 -- P, or B with P's guest, in epoch n
 unfoldable pub pInEpoch : ℕ → Pair → Pair
 pInEpoch n s = onP s (record { guest = s .p .guest; epoch = epochNo n; buffer = s .p .buffer }) (s .phase) []
@@ -89,6 +93,11 @@ pub record Order : Type 0 where
   pub badIdle : Refuses rubbish (pairAfter example 2 []) (BSTEP 0) 3
   pub badP : Refuses rubbish (pairAfter example 2 []) (PSTEP 0) 8
   pub badB : Refuses rubbish (pairAfter example 2 (take 5 caseA)) (BSTEP 0) 8
+  -- at the stepping card's own pc: P's is 2, or 1 after one PSTEP, and B's is 0
+  pub badAtP : Refuses (badAt 1) (pairAfter example 2 (PSTEP 0 ∷ [])) (PSTEP 0) 8
+  pub goodAtP : Refuses (badAt 0) (pairAfter example 2 (PSTEP 0 ∷ [])) (PSTEP 0) 0
+  pub badAtB : Refuses (badAt 0) (pairAfter example 2 (take 5 caseA)) (BSTEP 0) 8
+  pub goodAtB : Refuses (badAt 2) (pairAfter example 2 (take 5 caseA)) (BSTEP 0) 0
   -- and no other event looks at the program
   pub badElse : (trialFrom rubbish (pairAfter example 2 []) (FAIL ∷ DETECT ∷ BEND 0 ∷ [])) .answers ≡ 0 ∷ 0 ∷ 0 ∷ []
   -- PEND: 3 before 7, 7 before 4

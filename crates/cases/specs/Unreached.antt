@@ -4,7 +4,7 @@ use mathlib.Core.{Bool.true, List.{[], _∷_, List}, Path._≡_}
 use Prim.Native.Nat.{ℕ}
 use borrow.Fn.PlainCycle.{is}
 use Rattle.rules.specs.{declared.{Interrupt.Interrupt, Message.Message, Pair.Pair, Phase.the-variants.Failed, Role.{Role, the-variants.{Failover, Following, Promoted}}}, Guest.{reg, withCounts, withQueue}, Messages.{end, int, tme, val}, Pair.{withB, withDetected, withInbox, withPhase, withRole}, PairSlots.{laid, seen}}
-use Rattle.cases.specs.{Guest.status, Sound.{guestP, waiting}, Trials.{BEND, BSTEP, epochNo, Stand, stand, Trial, trialFrom}}
+use Rattle.cases.specs.{Guest.status, Sound.{guestP, waiting}, Trials.{BEND, BINT, BSTEP, epochNo, Stand, stand, Trial, trialFrom}}
 
 -- TIME r1, five times over
 unfoldable pub clockwork : List ℕ
@@ -50,5 +50,7 @@ pub record Unreached : Type 0 where
   pub fails : leftBy (afterOne (holding Failover 3 [] mixed) (BEND 91)) ≡ ((Promoted, 3, status 1 1 9 ∷ status 2 2 0 ∷ status 3 0 6 ∷ []), ofThree)
   -- "Promoted: boundary with B's own buffer and the word": the inbox stays as it was
   pub promoted : leftBy (afterOne (holding Promoted 3 (status 1 2 7 ∷ []) mixed) (BEND 91)) ≡ ((Promoted, 3, status 1 2 7 ∷ status 3 0 91 ∷ []), mixed)
+  -- BINT: "buffered", and nothing else
+  pub buffered : leftBy (afterOne (holding Promoted 1 [] mixed) (BINT 1 2 7)) ≡ ((Promoted, 2, []), mixed)
   -- "or else if the stop is detected (P7, failover begins)": an end of another epoch does not let B in
   pub begins : leftBy (afterOne (holding Following 3 [] (end (epochNo 4) ∷ [])) (BEND 91)) ≡ ((Failover, 3, status 3 0 91 ∷ []), end (epochNo 4) ∷ [])
