@@ -1,5 +1,6 @@
 // The bench program: a run file on standard input; a line for each record entry, and `end A C`. What is longer than the buffer is longer
 // than any run file, and is refused like any other bad one.
+#![tactic(auto)]
 ghost use Rattle.std.specs.Prelude.{◌≡◌};
 ghost use Rattle.desk.specs.Bench.{printed};
 

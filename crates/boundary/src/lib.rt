@@ -1,4 +1,5 @@
 // The boundary of an epoch, in its parts.
+#![tactic(auto)]
 ghost use Rattle.std.specs.Prelude.{◌≡◌};
 ghost use Rattle.slots.specs.Slots.{entries, folded};
 ghost use Rattle.rules.specs.Boundary.{uncertain as uncertain_of, timer_interrupt, restart as restart_of};

@@ -1,5 +1,6 @@
 // The monitor for programs in C: numbers and lent bytes alone. A pair lives in its owner's store as its image.
 // `firmware/build` makes the archive, and firmware/shelundiyi.h declares the functions.
+#![tactic(auto)]
 ghost use Rattle.std.specs.Prelude.{◌≡◌};
 ghost use Rattle.words.specs.Wrote.{Wrote};
 ghost use Rattle.layout.specs.Image.{image_at};

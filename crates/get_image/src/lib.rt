@@ -1,6 +1,7 @@
 // Reads the pair of an image: 01, "Stored forms". Which byte is which field is said in crate layout; each function here reads one part of
 // it at a place. A place lies inside an image, so no sum of places can wrap, and past the end of a slice that is too short zeros are read.
 // An array is made of copies of its first element, and then each is read in its place.
+#![tactic(auto)]
 ghost use Rattle.std.specs.Prelude.{◌≡◌, ◌+◌, ◌*◌, ◌≤◌};
 ghost use Rattle.forms.specs.Stored.{word, array};
 ghost use Rattle.layout.specs.Fields.{operation, interrupt, message, guest as guest_form, phase_of, role_of};

@@ -1,5 +1,6 @@
 // The probe program: what a run file cannot reach. It reads requests on standard input, and writes a line for each, as docs/PROBE.md has it.
 // The lines themselves are those of the crate requests.
+#![tactic(auto)]
 ghost use Rattle.io.specs.Counts.{IsPrefixLen};
 
 use libc::{STDIN_FILENO, STDOUT_FILENO};
@@ -14,7 +15,7 @@ const LINE_LENGTH: usize = 80064;
 const MOST: usize = 65536;
 
 // A header: the kind, L, and the lengths of the parts A, B and C.
-#[derive(Drop)]
+#[derive(Clone, Copy)]
 struct Request {
     kind: u8,
     limit: u16,

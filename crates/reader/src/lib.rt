@@ -3,6 +3,7 @@
 //
 // `count`, `event_at` and `place_after` do the work, on a slice and a number. `open`, `next` and `current` are thin functions over a `Reader`,
 // proved by hand, and `read_at` stands above them for callers that have a file and a place.
+#![tactic(auto)]
 ghost use Rattle.std.specs.Prelude.{◌≡◌};
 ghost use Rattle.reader.specs.Events.{event_count, event_at, place_after};
 ghost use Rattle.reader.specs.Place.{reader_at, stands_at, moved_on};
@@ -11,7 +12,7 @@ ghost use Rattle.reader.specs.Place.{reader_at, stands_at, moved_on};
 const EVENT: usize = 8;
 
 // A run file, and the place in it: how many of its events have been handed out.
-#[derive(Drop)]
+#[derive(Clone, Copy)]
 pub struct Reader<'a> {
     pub file: &'a [u8],
     pub at: usize,

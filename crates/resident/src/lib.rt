@@ -1,10 +1,11 @@
 // The resident monitor: the pair stays in its own store.
+#![tactic(auto)]
 ghost use Rattle.resident.specs.Applies.{Applies};
 
 use rules::{Answer, Pair, Shown};
 
 // What an event gives beside the pair that it leaves: the answer, and what the devices are shown.
-#[derive(Drop)]
+#[derive(Clone, Copy)]
 pub struct Applied {
     pub answer: Answer,
     pub shown: Shown,

@@ -1,15 +1,17 @@
 // The types of the house, and nothing that runs. What document 01 says of them stands in specs/.
 
+#![tactic(auto)]
+
 // An operation number. It is never given where an epoch number belongs.
-#[derive(Drop)]
+#[derive(Clone, Copy)]
 pub struct OpNo(pub u16);
 
 // An epoch number. It is never given where an operation number belongs.
-#[derive(Drop)]
+#[derive(Clone, Copy)]
 pub struct EpochNo(pub u16);
 
 // Status 1 completion, 2 uncertain, 3 timer; a free slot is all zero.
-#[derive(Drop)]
+#[derive(Clone, Copy)]
 pub struct Interrupt {
     pub status: u8,
     pub op: OpNo,
@@ -17,7 +19,7 @@ pub struct Interrupt {
 }
 
 // A guest: `done` and `times` are the instructions and TIMEs done this epoch, `last` the last operation number.
-#[derive(Drop)]
+#[derive(Clone, Copy)]
 pub struct Guest {
     pub pc: u16,
     pub done: u16,
@@ -32,7 +34,7 @@ pub struct Guest {
 }
 
 // An instruction: registers, a device, a number or a jump target.
-#[derive(Drop)]
+#[derive(Clone, Copy)]
 pub enum Instr {
     Nop,
     SetTo(u8, u16),
@@ -49,14 +51,14 @@ pub enum Instr {
 }
 
 // What four bytes of a program say.
-#[derive(Drop)]
+#[derive(Clone, Copy)]
 pub enum Decoded {
     Good(Instr),
     Bad,
 }
 
 // An entry of the devices' record: operation, device, word.
-#[derive(Drop)]
+#[derive(Clone, Copy)]
 pub struct RecordEntry {
     pub op: OpNo,
     pub device: u8,
@@ -64,21 +66,21 @@ pub struct RecordEntry {
 }
 
 // What the devices are shown by one instruction or one event.
-#[derive(Drop)]
+#[derive(Clone, Copy)]
 pub enum Shown {
     Nothing,
     Entry(RecordEntry),
 }
 
 // What one instruction leaves.
-#[derive(Drop)]
+#[derive(Clone, Copy)]
 pub struct Ran {
     pub guest: Guest,
     pub shown: Shown,
 }
 
 // Kind 1 Val, 2 Int, 3 Tme, 4 end; a free slot is all zero.
-#[derive(Drop)]
+#[derive(Clone, Copy)]
 pub struct Message {
     pub kind: u8,
     pub status: u8,
@@ -88,7 +90,7 @@ pub struct Message {
 }
 
 // The first card: while it waits it keeps the clock that it sent.
-#[derive(Drop)]
+#[derive(Clone, Copy)]
 pub enum Phase {
     Running,
     Waiting(u32),
@@ -96,7 +98,7 @@ pub enum Phase {
 }
 
 // The second card.
-#[derive(Drop)]
+#[derive(Clone, Copy)]
 pub enum Role {
     Following,
     Failover,
@@ -104,7 +106,7 @@ pub enum Role {
 }
 
 // A card: its guest, the epoch that it is in, and the interrupts that wait for the epoch's end.
-#[derive(Drop)]
+#[derive(Clone, Copy)]
 pub struct Card {
     pub guest: Guest,
     pub epoch: EpochNo,
@@ -112,7 +114,7 @@ pub struct Card {
 }
 
 // Two cards P and B, L and N, the link between them with its acknowledgements in flight, and B's inbox.
-#[derive(Drop)]
+#[derive(Clone, Copy)]
 pub struct Pair {
     pub p: Card,
     pub phase: Phase,
@@ -127,7 +129,7 @@ pub struct Pair {
 }
 
 // An event, by 01's names.
-#[derive(Drop)]
+#[derive(Clone, Copy)]
 pub enum Event {
     PStep(u32),
     PInt(Interrupt),
@@ -143,7 +145,7 @@ pub enum Event {
 }
 
 // Why something is refused; `number` in specs/ gives 01's number of each.
-#[derive(Drop)]
+#[derive(Clone, Copy)]
 pub enum Refusal {
     Malformed,
     Dead,
@@ -159,21 +161,21 @@ pub enum Refusal {
 }
 
 // What eight bytes say.
-#[derive(Drop)]
+#[derive(Clone, Copy)]
 pub enum Reading {
     WellFormed(Event),
     IllFormed,
 }
 
 // What comes back: taken, or the refusal.
-#[derive(Drop)]
+#[derive(Clone, Copy)]
 pub enum Answer {
     Taken,
     Refused(Refusal),
 }
 
 // The outcome of an event: the answer, the next pair (the pair as it came where refused) and what the devices are shown.
-#[derive(Drop)]
+#[derive(Clone, Copy)]
 pub struct Outcome {
     pub answer: Answer,
     pub pair: Pair,

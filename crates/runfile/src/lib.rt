@@ -1,6 +1,7 @@
 // Run files, read and written: 01, "Stored forms". Which byte is which field is said in specs/RunFile.antt.
 //
 // Every function takes any bytes. The lengths of a file are judged before they are added to a place, so no sum can wrap.
+#![tactic(auto)]
 ghost use Rattle.std.specs.Prelude.{◌≡◌, ◌+◌, ◌≤◌, length};
 ghost use Rattle.words.specs.Wrote.{Wrote};
 ghost use Rattle.runfile.specs.RunFile.{bodies, fine_program, fine_events, fine_lengths, entry_of, entry, header_of, header};

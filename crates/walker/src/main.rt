@@ -2,6 +2,7 @@
 // `resident::apply`, over a `&mut Pair`. It prints what the bench prints: both are proved to print the same bytes.
 //
 // `walk` is the one function that calls them, and is proved by hand. The loop over it has plain values in its locals.
+#![tactic(auto)]
 ghost use Rattle.std.specs.Prelude.{◌&&◌, ◌≡◌, ltb};
 ghost use Rattle.desk.specs.Bench.{Prints, bench_start, lines, printed, takes};
 ghost use Rattle.reader.specs.Events.{event_count};
@@ -12,7 +13,7 @@ use resident::Applied;
 use rules::{Answer, Pair, Shown};
 
 // What a stretch of events comes to: the place behind it, the pair that it leaves, and what its last event gave.
-#[derive(Drop)]
+#[derive(Clone, Copy)]
 struct Stretch {
     at: usize,
     pair: Pair,

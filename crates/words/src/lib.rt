@@ -2,6 +2,8 @@
 //
 // Every function takes any place of any slice. A byte past the end reads as 0 and is not written: a reader of a slice that is too
 // short still gets a number, and a writer keeps to the slice that it was lent.
+#![tactic(auto)]
+
 ghost use Rattle.std.specs.Prelude.{◌≡◌, [], ◌∷◌, ◌+◌, ◌*◌, get_or};
 ghost use Rattle.words.specs.Numbers.{le8, le16, le32, at8, at16, at32};
 ghost use Rattle.words.specs.Wrote.{Wrote};

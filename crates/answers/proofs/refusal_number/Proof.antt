@@ -1,8 +1,0 @@
-use borrow.Author.Rules.{rules}
-use Rattle.rules.specs.Events.{number}
-use Rattle.answers.proofs.refusal_number.Statement.{statement}
-use Rattle.answers.proofs.refusal_number.Tie as tie
-
-pub refusal_number_spec : {M : Type 1} → statement M
-unfolding number
-refusal_number_spec = tie.close (tie.spec (λ c. search rules) (λ c. search rules) (λ c. search rules) (λ c. search rules) (λ c. search rules) (λ c. search rules) (λ c. search rules) (λ c. search rules) (λ c. search rules) (λ c. search rules) (λ c. search rules) (λ c. rw c.enum_told.given.1) (λ c. rw c.enum-told2.given.1) (λ c. rw c.enum-told3.given.1) (λ c. rw c.enum-told4.given.1) (λ c. rw c.enum-told5.given.1) (λ c. rw c.enum-told6.given.1) (λ c. rw c.enum-told7.given.1) (λ c. rw c.enum-told8.given.1) (λ c. rw c.enum-told9.given.1) (λ c. rw c.enum-told10.given.1) (λ c. rw c.enum-told11.given.1))

@@ -1,9 +1,0 @@
-use Prim.Native.Nat.{◌*◌, ◌+◌, ◌-◌}
-use borrow.Author.Rules.{rules}
-use Rattle.forms.proofs.Loops.{Filled, filled_end, filled_more, filled_start}
-use Rattle.layout.specs.Fields.{message}
-use Rattle.get_image.proofs.get_inbox.Statement.{statement}
-use Rattle.get_image.proofs.get_inbox.Tie as tie
-
-pub get_inbox_spec : {M : Type 1} → statement M
-get_inbox_spec = tie.close (tie.spec (λ s at r₀ i₀ r i. Filled (λ j. message.at s (at + j * message.size)) 128 r i) (λ s at r₀ i₀ r i. 128 - i) (λ c κs. search rules) (λ c. filled_start (search rules)) (λ c. search rules) (λ c. search rules) (λ c κs. search rules) (λ c. search rules) (λ c. search rules) (λ c. search rules) (λ c. search rules) (λ c. filled_more c.before.before.loop.invariant (search rules) (cc)) (λ c. filled_end c.before.loop.invariant (search rules)))
