@@ -58,8 +58,8 @@ unfolding perform_in perform
 returns-in-Time c = search rules
 
 pub returns-in-Start : goal.returns-in-Start
-unfolding perform_in perform
-returns-in-Start c = rw (c.put-in-Add.ensures, c.sum.ensures, c.reg-in-Add.ensures, c.reg.ensures, c.i-in-Add-1.given.1, add-one)
+unfolding perform_in
+returns-in-Start c = rw (c.moved.ensures, c.start.ensures, c.in-Start.is, add-one) (start-moves c.args.g _ _ _ _)
 
 pub returns-in-Timer : goal.returns-in-Timer
 unfolding perform_in perform

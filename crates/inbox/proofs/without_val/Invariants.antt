@@ -16,6 +16,9 @@ use Rattle.slots.proofs.Tests.{is_free, is_used}
 use Rattle.slots.specs.Slots.{entries, pick}
 use Rattle.inbox.proofs.without_val.Given as goal
 
+abbrev pub rest : EpochNo → Bool → List Message → List Message
+rest e found ms = pick found ms (drop_val e ms)
+
 abbrev pub invariant-loop-i : goal.invariant-loop-i
 invariant-loop-i l = (l.i ≤ 128) × (l.j ≤ l.i) × Filling 128 zero_message (drop_val l.e (entries used_message l.xs)) (rest l.e l.found (entries used_message (drop l.i l.xs))) l.ys l.j
 

@@ -29,6 +29,16 @@ falls n last o os h = go (leb o.0 n) refl h
     go true e k = rw (le-ltb n o.0 (leb-true o.0 n e))
     go false e k = rw (lt-ltb n o.0 (leb-false o.0 n e), lt-leb o.0 last (ltb-true last o.0 k))
 
+pub returns-then-x-eq0 : goal.returns-then-x-eq0
+unfolding ascending
+returns-then-x-eq0 c = sym (c.loop-i.invariant.1 ∙ ap (ascending c.loop-i.below.0 c.args.last.0) (entries-stop used_op c.args.xs c.loop-i.i zero_op (search rules) (is_free _ c.if-x-eq0.true)))
+
+pub returns-then-x-below : goal.returns-then-x-below
+returns-then-x-below c = sym (c.loop-i.invariant.1 ∙ ap (ascending c.loop-i.below.0 c.args.last.0) (entries_go used_op c.args.xs c.loop-i.i zero_op (search rules) (is_used _ c.if-x-eq0.false)) ∙ falls _ _ _ _ c.if-x-below.true)
+
+pub loop-i-preserved : goal.loop-i-preserved
+loop-i-preserved c = (search rules, c.loop-i.invariant.1 ∙ ap (ascending c.loop-i.below.0 c.args.last.0) (entries_go used_op c.args.xs c.loop-i.i zero_op (search rules) (is_used _ c.if-x-eq0.false)) ∙ rises _ _ _ _ _ refl c.if-x-below.false)
+
 pub returns : goal.returns
 unfolding ascending
 returns c = sym (c.loop-i.invariant.1 ∙ ap (ascending c.loop-i.below.0 c.args.last.0) (entries-end used_op c.args.xs c.loop-i.i (search rules)))

@@ -11,5 +11,11 @@ use Rattle.slots.proofs.Tests.{is_free, is_used}
 use Rattle.sound.proofs.Slots.{used_not_zero}
 use Rattle.sound.proofs.sound_queue.Goals as goal
 
+pub returns-then-free-sound_entry : goal.returns-then-free-sound_entry
+returns-then-free-sound_entry c = sym (sym (in_order_lem used_interrupt is_zero_interrupt sound_entry used_not_zero c.args.xs) ∙ c.loop-i.invariant.1 ∙ order_broken used_interrupt is_zero_interrupt sound_entry c.args.xs c.loop-i.i zero_interrupt (search rules) c.loop-i.free (is_used _ c.if-x-eq0.false) (rw c.sound_entry.ensures at c.if-free-sound_entry.true))
+
+pub loop-i-preserved : goal.loop-i-preserved
+loop-i-preserved c = (search rules, c.loop-i.invariant.1 ∙ order_used used_interrupt is_zero_interrupt sound_entry c.args.xs c.loop-i.i zero_interrupt (search rules) c.loop-i.free (is_used _ c.if-x-eq0.false) (rw c.sound_entry.ensures at c.if-free-sound_entry.false))
+
 pub returns : goal.returns
 returns c = sym (sym (in_order_lem used_interrupt is_zero_interrupt sound_entry used_not_zero c.args.xs) ∙ c.loop-i.invariant.1 ∙ order-end used_interrupt is_zero_interrupt sound_entry c.loop-i.free c.args.xs c.loop-i.i (search rules))
