@@ -30,5 +30,11 @@ word-later k e m ms w h = rw h
 pub returns-then-x-eq0 : goal.returns-then-x-eq0
 returns-then-x-eq0 c = sym (c.loop-i.invariant.1 ∙ ap (λ l. word_of c.args.kind c.args.e l c.args.word) (entries-stop used_message c.args.xs c.loop-i.i zero_message (search rules) (is_free _ c.if-x-eq0.true)) ∙ word_none _ _ _)
 
+pub returns-then-of_kind : goal.returns-then-of_kind
+returns-then-of_kind c = sym (c.loop-i.invariant.1 ∙ ap (λ l. word_of c.args.kind c.args.e l c.args.word) (entries_go used_message c.args.xs c.loop-i.i zero_message (search rules) (is_used _ c.if-x-eq0.false)) ∙ word_here c.args.kind c.args.e _ _ _ (sym c.of_kind.ensures ∙ c.if-of_kind.true))
+
+pub loop-i-preserved : goal.loop-i-preserved
+loop-i-preserved c = (search rules, c.loop-i.invariant.1 ∙ ap (λ l. word_of c.args.kind c.args.e l c.args.word) (entries_go used_message c.args.xs c.loop-i.i zero_message (search rules) (is_used _ c.if-x-eq0.false)) ∙ word-later c.args.kind c.args.e _ _ _ (sym c.of_kind.ensures ∙ c.if-of_kind.false))
+
 pub returns : goal.returns
 returns c = sym (c.loop-i.invariant.1 ∙ ap (λ l. word_of c.args.kind c.args.e l c.args.word) (entries-end used_message c.args.xs c.loop-i.i (search rules)) ∙ word_none _ _ _)

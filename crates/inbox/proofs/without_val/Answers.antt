@@ -38,5 +38,11 @@ loop-i-init c = (search rules, search rules, filling_from c.free-zero.ensures)
 pub returns-then-x-eq0 : goal.returns-then-x-eq0
 returns-then-x-eq0 c = filling_end c.loop-i.invariant.2 (ap (rest c.args.e c.loop-i.found) (entries-stop used_message c.args.xs c.loop-i.i zero_message (search rules) (is_free _ c.if-x-eq0.true)) ∙ rest-none c.args.e c.loop-i.found)
 
+pub loop-i-preserved-then-found-of_kind : goal.loop-i-preserved-then-found-of_kind
+loop-i-preserved-then-found-of_kind c = (search rules, search rules, filling_skip c.loop-i.invariant.2 (ap (rest c.args.e c.loop-i.found) (entries_go used_message c.args.xs c.loop-i.i zero_message (search rules) (is_used _ c.if-x-eq0.false)) ∙ rest_found c.args.e c.loop-i.found _ _ (rw c.of_kind.ensures at c.if-found-of_kind.true)))
+
+pub loop-i-preserved : goal.loop-i-preserved
+loop-i-preserved c = (search rules, search rules, filling_more c.loop-i.invariant.2 (ap (rest c.args.e c.loop-i.found) (entries_go used_message c.args.xs c.loop-i.i zero_message (search rules) (is_used _ c.if-x-eq0.false)) ∙ rest-kept c.args.e c.loop-i.found _ _ (rw c.of_kind.ensures at c.if-found-of_kind.false)) (search rules))
+
 pub returns : goal.returns
 returns c = filling_end c.loop-i.invariant.2 (ap (rest c.args.e c.loop-i.found) (entries-end used_message c.args.xs c.loop-i.i (search rules)) ∙ rest-none c.args.e c.loop-i.found)
