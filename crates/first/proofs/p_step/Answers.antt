@@ -8,3 +8,6 @@ returns-then-is_failed c = rw c.refused.ensures (pstep_dead_lem c.args.program.n
 
 pub returns-then-complete : goal.returns-then-complete
 returns-then-complete c = rw c.refused-then-complete.ensures (pstep_done_lem c.args.program.now c.args.pair c.args.word (sym c.is_failed.ensures ∙ c.if-is_failed.false) (sym c.complete.ensures ∙ c.if-complete.true))
+
+pub returns-in-Bad : goal.returns-in-Bad
+returns-in-Bad c = rw c.refused-in-Bad.ensures (pstep_bad_lem c.args.program.now c.args.pair c.args.word (sym c.is_failed.ensures ∙ c.if-is_failed.false) (sym c.complete.ensures ∙ c.if-complete.false) (sym c.fetch-d.ensures ∙ c.in-Bad.is))
