@@ -1,5 +1,6 @@
 // 01's number of an answer, for whoever needs numbers: what is printed, and what is handed to C.
 #![tactic(auto)]
+
 ghost use Rattle.std.specs.Prelude.{◌≡◌};
 ghost use Rattle.rules.specs.Events.{number as number_of};
 ghost use Rattle.rules.specs.PairSlots.{answer_number};

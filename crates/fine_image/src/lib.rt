@@ -1,6 +1,7 @@
 // Tests the bytes of an image that say nothing of a pair: 01, "form, phases and flags in range; zero fields 0; .. clock sent 0 unless waiting".
 // Which byte is which field is said in crate layout. A place lies inside an image, so no sum of places can wrap.
 #![tactic(auto)]
+
 ghost use Rattle.std.specs.Prelude.{◌≡◌, ◌+◌, ◌*◌, ◌≤◌};
 ghost use Rattle.forms.specs.Stored.{array};
 ghost use Rattle.layout.specs.Fields.{interrupt, message, guest, phase_may};

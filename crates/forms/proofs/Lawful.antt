@@ -43,9 +43,9 @@ always_lawful {S} L n = record {
 }
 
 module _ {A B : Type 0} {S : Stored A} {T : Stored B} {Fit : A → Type 0} {Fit' : B → Type 0} where
-  infixl 40 ◌and-then◌
-  pub ◌and-then◌ : Lawful S Fit → Lawful T Fit' → Lawful (S then T) (λ (p : A × B). Fit p.0 × Fit' p.1)
-  ◌and-then◌ L M = record {
+  infixl 40 ◌and_then◌
+  pub ◌and_then◌ : Lawful S Fit → Lawful T Fit' → Lawful (S then T) (λ (p : A × B). Fit p.0 × Fit' p.1)
+  ◌and_then◌ L M = record {
     form = retested (F.◌then◌ L.form M.form) (λ s i o. and_true (S.fine s i) (T.fine s (i + S.size)) o);
     passes = λ s i p h e.
         let w = L.form.wide p.0 h.0 in

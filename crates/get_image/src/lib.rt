@@ -2,6 +2,7 @@
 // it at a place. A place lies inside an image, so no sum of places can wrap, and past the end of a slice that is too short zeros are read.
 // An array is made of copies of its first element, and then each is read in its place.
 #![tactic(auto)]
+
 ghost use Rattle.std.specs.Prelude.{◌≡◌, ◌+◌, ◌*◌, ◌≤◌};
 ghost use Rattle.forms.specs.Stored.{word, array};
 ghost use Rattle.layout.specs.Fields.{operation, interrupt, message, guest as guest_form, phase_of, role_of};

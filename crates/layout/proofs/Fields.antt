@@ -1,6 +1,6 @@
 -- The parts of an image are lawful forms.
 use mathlib.Core.Path.{◌≡◌, refl, sym}
-use mathlib.Core.Bool.{true, false, ◌&&◌, ◌||◌, false≢true}
+use mathlib.Core.Bool.{true, ◌&&◌, ◌||◌, false≢true}
 use Prim.Native.Nat.{ℕ, zero, suc}
 use native.Mathlib.Omega.{arith}
 use lib.Dec.{eqb, leb}
@@ -8,7 +8,7 @@ use borrow.Author.Tests.{leb-true, eqb-true}
 use Rattle.slots.proofs.Tests.{and_true}
 use Rattle.forms.proofs.Form.{AnyThing}
 use Rattle.forms.specs.Stored.{any}
-use Rattle.forms.proofs.Lawful.{Lawful, byte_lawful, half_lawful, word_lawful, flag_lawful, always_lawful, anything, ◌and-then◌, array_lawful, stored_as_lawful}
+use Rattle.forms.proofs.Lawful.{Lawful, byte_lawful, half_lawful, word_lawful, flag_lawful, always_lawful, anything, ◌and_then◌, array_lawful, stored_as_lawful}
 use Rattle.rules.specs.Pair.{clock_sent}
 use Rattle.rules.specs.declared.Phase.{Phase}
 use Rattle.rules.specs.declared.Phase.TheVariants.{Running, Waiting, Failed}

@@ -9,7 +9,7 @@ use lib.Seq.{take_all}
 use Rattle.words.specs.Numbers.{Bytes}
 use Rattle.forms.proofs.Form.{AnyThing, load-save, save-load}
 use Rattle.words.proofs.Arrays.{length-tab}
-use Rattle.forms.proofs.Lawful.{Lawful, byte_lawful, half_lawful, word_lawful, flag_lawful, always_lawful, anything, ◌and-then◌, array_lawful, stored_as_lawful}
+use Rattle.forms.proofs.Lawful.{Lawful, byte_lawful, half_lawful, word_lawful, flag_lawful, always_lawful, anything, ◌and_then◌, array_lawful, stored_as_lawful}
 use Rattle.rules.specs.declared.Pair.{Pair}
 use Rattle.layout.specs.Fields.{guest, phase_may}
 use Rattle.layout.specs.Image.{Header, header, image, image_form, image_length, image_bytes, image_at, image_fine, GuestSized, PairSized}

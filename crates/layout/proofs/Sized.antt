@@ -2,7 +2,6 @@
 use mathlib.Core.List.{List}
 use mir.Val.{Val}
 use denote.Laws.{Is}
-use Rattle.slots.proofs.Tests.{length_mapped}
 use Rattle.rules.specs.declared.Guest.{Guest}
 use Rattle.rules.specs.declared.Pair.{Pair}
 use Rattle.rules.specs.contracts.Guest as G
@@ -14,10 +13,10 @@ guest_sized g vs h =
     let f = h.1.1.1.1.1.1.1 in
     let t = f.1.1.1 in
     record {
-      regs = length_mapped _ g.regs 8 f.0.1.0.1;
-      mem = length_mapped _ g.mem 64 f.1.0.1.0.1;
-      table = length_mapped _ g.table 16 t.0.1.0.1;
-      queue = length_mapped _ g.queue 17 t.1.0.1.0.1;
+      regs = f.0.1.0.1;
+      mem = f.1.0.1.0.1;
+      table = t.0.1.0.1;
+      queue = t.1.0.1.0.1;
     }
 
 pub pair_sized : (s : Pair) (vs : List Val) → Is P.the_row s vs → PairSized s
@@ -29,8 +28,8 @@ pair_sized s vs h =
     record {
       p = guest_sized s.p.guest _ p.0;
       b = guest_sized s.b.guest _ b.0;
-      buffer = length_mapped _ s.p.buffer 16 p.1.1.0.1.0.1;
-      own = length_mapped _ s.b.buffer 16 b.1.1.0.1.0.1;
-      link = length_mapped _ s.link 58 l.0.1.0.1;
-      inbox = length_mapped _ s.inbox 128 l.1.1.0.1.0.1;
+      buffer = p.1.1.0.1.0.1;
+      own = b.1.1.0.1.0.1;
+      link = l.0.1.0.1;
+      inbox = l.1.1.0.1.0.1;
     }

@@ -1,5 +1,6 @@
 // Decoding: four bytes to an instruction, and the test of a whole program.
 #![tactic(auto)]
+
 ghost use Rattle.std.specs.Prelude.{◌≡◌, ◌+◌, ◌*◌, ◌/◌, length, get_or};
 ghost use Rattle.rules.specs.Decode.{none as none_of, one as one_of, two as two_of, three as three_of, allow, decode as decode_of, fetch as fetch_of, is_bad};
 ghost use Rattle.rules.specs.Program.{good_up_to, good_program};

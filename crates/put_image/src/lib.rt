@@ -1,6 +1,7 @@
 // Writes the image of a pair: 01, "Stored forms". Which byte is which field is said in crate layout; each function here writes one part
 // of it at a place, and keeps to the slice that it was lent. A place lies inside an image, so no sum of places can wrap.
 #![tactic(auto)]
+
 ghost use Rattle.std.specs.Prelude.{◌≡◌, ◌+◌, ◌*◌, ◌≤◌, length};
 ghost use Rattle.words.specs.Wrote.{Wrote};
 ghost use Rattle.words.specs.Numbers.{le32};

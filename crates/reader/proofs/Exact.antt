@@ -1,7 +1,7 @@
 -- No second outcome meets a contract: two results, and two readers that are left, are equal where both do.
 -- `F.Post κs a r s` is the `ensures` of F as it stands in src/lib.rt, of the lifetimes κs, the arguments a, the result r and what the
 -- references hold at the end, s. Of a part of the file it is what stands there that is settled.
--- A function over a reader is walked by hand and has no `Post`. Its `ensures` is that of its clauses, in every model of the logic.
+-- Of `open`, `next` and `current` the `ensures` is that of their clauses, in every model of the logic.
 use mathlib.Core.Path.{◌≡◌, sym, ◌∙◌}
 use seplogic.Ra.Ura.{Ura}
 use base.Logic.{SProp, ent, sep, fst∗, snd∗}

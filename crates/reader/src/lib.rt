@@ -2,8 +2,9 @@
 // stand before it.
 //
 // `count`, `event_at` and `place_after` do the work, on a slice and a number. `open`, `next` and `current` are thin functions over a `Reader`,
-// proved by hand, and `read_at` stands above them for callers that have a file and a place.
+// and `read_at` stands above them for callers that have a file and a place.
 #![tactic(auto)]
+
 ghost use Rattle.std.specs.Prelude.{◌≡◌};
 ghost use Rattle.reader.specs.Events.{event_count, event_at, place_after};
 ghost use Rattle.reader.specs.Place.{reader_at, stands_at, moved_on};

@@ -1,5 +1,5 @@
 -- What reading and writing a run file answer, each number in its situation and in no other.
-use mathlib.Core.{Bool.{Bool, false, not, true}, List.List, Path.{◌≡◌, ap, refl}}
+use mathlib.Core.{Bool.{false, not}, List.List, Path.{ap, refl}}
 use Prim.Native.Nat.{ℕ}
 use native.Mathlib.Omega.{arith}
 use borrow.Author.Tests.{not-false, not-true}

@@ -15,7 +15,7 @@ use Rattle.forms.proofs.Form.{AnyThing}
 use Rattle.forms.proofs.Part.{part, part_join}
 use Rattle.forms.specs.Stored.{any}
 use Rattle.forms.specs.Lent.{refusing, where_taken}
-use Rattle.forms.proofs.Lawful.{Lawful, byte_lawful, half_lawful, word_lawful, always_lawful, anything, ◌and-then◌, stored_as_lawful}
+use Rattle.forms.proofs.Lawful.{Lawful, byte_lawful, half_lawful, word_lawful, always_lawful, anything, ◌and_then◌, stored_as_lawful}
 use Rattle.rules.proofs.Answers.{is-refused, taken-zero, zero-taken}
 use Rattle.rules.specs.declared.Answer.{Answer}
 use Rattle.rules.specs.declared.Answer.TheVariants.{Taken, Refused}

@@ -2,6 +2,7 @@
 //
 // Every function takes any bytes. The lengths of a file are judged before they are added to a place, so no sum can wrap.
 #![tactic(auto)]
+
 ghost use Rattle.std.specs.Prelude.{◌≡◌, ◌+◌, ◌≤◌, length};
 ghost use Rattle.words.specs.Wrote.{Wrote};
 ghost use Rattle.runfile.specs.RunFile.{bodies, fine_program, fine_events, fine_lengths, entry_of, entry, header_of, header};

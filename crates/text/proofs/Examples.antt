@@ -1,7 +1,6 @@
 -- Some texts, byte for byte.
 use mathlib.Core.Path.{◌≡◌, refl}
-use mathlib.Core.List.{List, [], ◌∷◌}
-use Prim.Native.Nat.{ℕ}
+use mathlib.Core.List.{[], ◌∷◌}
 use Rattle.words.specs.Arrays.{each}
 use Rattle.text.specs.Numbers.{decimal, digits, hex, hex_byte, hex_digit}
 use Rattle.text.specs.Lines.{end_line, entry_line, entry_text, number_field}

@@ -3,6 +3,7 @@
 // Every function takes any place of any text and answers the place behind what it spelled. What has no place in the text is not stored,
 // and the place behind is then the text's end: a text that is too short ends early, and nothing else happens.
 #![tactic(auto)]
+
 ghost use Rattle.std.specs.Prelude.{[], ◌∷◌, ◌≤◌, ◌%◌, ◌≡◌, length};
 ghost use Rattle.text.specs.Spelled.{Spelled};
 ghost use Rattle.text.specs.Numbers.{decimal, hex_digit, hex_byte, hex};

@@ -1,0 +1,25 @@
+use mathlib.Core.List.{List}
+use mathlib.Core.Path.{◌∙◌, ◌≡◌, ap, refl, sym}
+use Prim.Native.Nat.{◌-◌, ◌≤◌}
+use borrow.Author.Rules.{rules}
+use lib.ListN.{drop}
+use Rattle.rules.specs.Boundary.{uncertain}
+use Rattle.rules.specs.GuestSlots.{used_op, zero_op}
+use Rattle.rules.specs.declared.Guest.{Guest}
+use Rattle.rules.specs.declared.OpNo.{OpNo}
+use Rattle.slots.proofs.Entries.{entries-end, entries_go, entries-stop}
+use Rattle.slots.proofs.Lists.{folded-cons, folded-nil}
+use Rattle.slots.proofs.Tests.{is_free, is_used}
+use Rattle.slots.specs.Slots.{entries, folded}
+use Rattle.boundary.specs.InSlots.{deliver_in}
+use Rattle.boundary.proofs.tell_each.Invariants.{tells}
+use Rattle.boundary.proofs.tell_each.Goals as goal
+
+pub returns-then-x-eq0 : goal.returns-then-x-eq0
+returns-then-x-eq0 c = sym (c.loop-i.invariant.1 ∙ ap (tells c.loop-i.h) (entries-stop used_op c.args.xs c.loop-i.i zero_op (search rules) (is_free _ c.if-x-eq0.true)) ∙ folded-nil _ _)
+
+pub loop-i-preserved : goal.loop-i-preserved
+loop-i-preserved c = (search rules, rw (c.deliver-h.ensures, c.uncertain.ensures) (c.loop-i.invariant.1 ∙ ap (tells c.loop-i.h) (entries_go used_op c.args.xs c.loop-i.i zero_op (search rules) (is_used _ c.if-x-eq0.false)) ∙ folded-cons _ _ _ _))
+
+pub returns : goal.returns
+returns c = sym (c.loop-i.invariant.1 ∙ ap (tells c.loop-i.h) (entries-end used_op c.args.xs c.loop-i.i (search rules)) ∙ folded-nil _ _)

@@ -1,0 +1,9 @@
+use mathlib.Core.Path.{◌∙◌}
+use Rattle.rules.specs.Boundary.{uncertain}
+use Rattle.slots.proofs.Lists.{folded_map}
+use Rattle.boundary.specs.InSlots.{deliver_in, tell_uncertain_in}
+use Rattle.boundary.proofs.tell_uncertain.Goals as goal
+
+pub returns : goal.returns
+unfolding tell_uncertain_in
+returns c = c.tell_each.ensures ∙ folded_map deliver_in uncertain _ _

@@ -1,0 +1,16 @@
+use mathlib.Core.Path.{◌≡◌, ap}
+use Prim.Native.Nat.{◌+◌, ◌-◌, ◌≤◌}
+use borrow.Author.Rules.{rules}
+use lib.ListN.{drop, length}
+use native.Mathlib.Omega.{arith}
+use Rattle.rules.specs.GuestSlots.{used_interrupt, zero_interrupt}
+use Rattle.slots.proofs.Entries.{entries-end, entries_go, entries-stop}
+use Rattle.slots.proofs.Tests.{is_free, is_used}
+use Rattle.slots.specs.Slots.{entries}
+use Rattle.buffer.proofs.count.Given as goal
+
+abbrev pub invariant-loop-i : goal.invariant-loop-i
+invariant-loop-i l = (l.i ≤ 16) × (length (entries used_interrupt l.xs) ≡ l.i + length (entries used_interrupt (drop l.i l.xs)))
+
+abbrev pub decreases-loop-i : goal.decreases-loop-i
+decreases-loop-i l = 16 - l.i

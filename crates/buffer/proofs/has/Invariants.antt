@@ -1,0 +1,18 @@
+use mathlib.Core.Path.{◌∙◌, ◌≡◌, ap, refl, sym}
+use Prim.Native.Nat.{◌-◌, ◌≤◌}
+use borrow.Author.Rules.{rules}
+use borrow.Author.Tests.{eq-eqb, ne_eqb}
+use lib.ListN.{drop}
+use Rattle.rules.specs.Guest.{listed, ops_of}
+use Rattle.rules.specs.GuestSlots.{used_interrupt, zero_interrupt}
+use Rattle.slots.proofs.Entries.{entries-end, entries_go, entries-stop}
+use Rattle.slots.proofs.Lists.{any_here, any-later, any-nil}
+use Rattle.slots.proofs.Tests.{is_free, is_used}
+use Rattle.slots.specs.Slots.{entries}
+use Rattle.buffer.proofs.has.Given as goal
+
+abbrev pub invariant-loop-i : goal.invariant-loop-i
+invariant-loop-i l = (l.i ≤ 16) × (listed l.o (ops_of (entries used_interrupt l.xs)) ≡ listed l.o (ops_of (entries used_interrupt (drop l.i l.xs))))
+
+abbrev pub decreases-loop-i : goal.decreases-loop-i
+decreases-loop-i l = 16 - l.i

@@ -1,0 +1,7 @@
+use borrow.Author.Rules.{rules}
+use Rattle.rules.specs.PairSlots.{zero_pair}
+use Rattle.outcomes.proofs.nothing.Goals as goal
+
+pub returns : goal.returns
+unfolding zero_pair
+returns c = c.blank.ensures
