@@ -1,6 +1,7 @@
-// The monitor for programs in C: numbers and lent bytes alone. A pair lives in its owner's store as its image.
-// `firmware/build` makes the archive, and firmware/shelundiyi.h declares the functions.
+// The monitor for programs in C: numbers and lent bytes alone. A pair lives in its owner's store as its image. The crate firmware_c has the
+// functions under their names for C.
 #![tactic(auto)]
+
 ghost use Rattle.std.specs.Prelude.{◌≡◌};
 ghost use Rattle.words.specs.Wrote.{Wrote};
 ghost use Rattle.layout.specs.Image.{image_at};
@@ -87,8 +88,7 @@ fn apply(program: &[u8], store: &[u8], event: &[u8], room: usize) -> Outcome
 // One event on the pair in the store: 1; 10 for a store that is not an image long; 11; 8; the event's column; 8; and 9 where it shows an entry
 // that has no room. Refused, neither store nor entry is touched; taken, the store has the next pair, and the entry its 8 bytes or, where
 // nothing is shown, zeros for as many of them as it has.
-#[unsafe(no_mangle)]
-pub extern "C" fn pair_step(program: &[u8], store: &mut [u8], event: &[u8], entry: &mut [u8]) -> u8
+pub fn pair_step(program: &[u8], store: &mut [u8], event: &[u8], entry: &mut [u8]) -> u8
     ensures { Stepped program.now store.old event.now entry.old result store.new entry.new }
 {
     let outcome = apply(program, store, event, entry.len());
@@ -105,8 +105,7 @@ pub extern "C" fn pair_step(program: &[u8], store: &mut [u8], event: &[u8], entr
 }
 
 // Saves the pair in the store into a buffer: 10 or 11 for a store that is no image of a sound pair, then 9.
-#[unsafe(no_mangle)]
-pub extern "C" fn pair_save(store: &[u8], buf: &mut [u8]) -> u8
+pub fn pair_save(store: &[u8], buf: &mut [u8]) -> u8
     ensures { SavedFrom store.now buf.old result buf.new }
 {
     let loaded = image::load(store);
@@ -121,8 +120,7 @@ pub extern "C" fn pair_save(store: &[u8], buf: &mut [u8]) -> u8
 }
 
 // Whether these bytes are a pair that the monitor takes: 0, else 10 or 11.
-#[unsafe(no_mangle)]
-pub extern "C" fn pair_load(image: &[u8]) -> u8
+pub fn pair_load(image: &[u8]) -> u8
     ensures { result ≡ answer_number (loaded image.now).answer }
 {
     let loaded = image::load(image);
@@ -131,8 +129,7 @@ pub extern "C" fn pair_load(image: &[u8]) -> u8
 }
 
 // Retires the store: 8, then 9; on both every byte of it is 0. Else it has a fresh pair, and zeros to its end.
-#[unsafe(no_mangle)]
-pub extern "C" fn pair_retire(program: &[u8], l: u16, store: &mut [u8]) -> u8
+pub fn pair_retire(program: &[u8], l: u16, store: &mut [u8]) -> u8
     ensures { RetiredStore program.now l store.old result store.new }
 {
     let retired = image::retire(program, l, store);

@@ -1,9 +1,14 @@
 // The probe program: what a run file cannot reach. It reads requests on standard input, and writes a line for each, as docs/PROBE.md has it.
 // The lines themselves are those of the crate requests.
 #![tactic(auto)]
-ghost use Rattle.io.specs.Counts.{IsPrefixLen};
 
-use libc::{STDIN_FILENO, STDOUT_FILENO};
+ghost use Rattle.std.specs.Io.{ReadsAtMost};
+
+use std::io;
+use std::io::Read;
+
+// What comes of a part is kept up to this length.
+const KEPT: usize = 65536;
 
 // "A part has at most 40,000 bytes"
 const LONGEST: usize = 40000;
@@ -41,66 +46,88 @@ fn read_header(header: &[u8]) -> Request {
 }
 
 // Reads a part of n bytes to the front of its buffer, and answers how many of them came: none of a part that is too long.
-fn fill(buf: &mut [u8], n: usize) -> usize
-    ensures { IsPrefixLen result buf.new }
+fn fill<R: Read>(input: &mut R, buf: &mut [u8], n: usize) -> io::Result<usize>
+    ensures { ReadsAtMost result buf.new }
 {
     if n > LONGEST {
-        return 0;
+        return Ok(0);
     }
     if n > buf.len() {
-        return 0;
+        return Ok(0);
     }
-    io::read_full(STDIN_FILENO, &mut buf[..n])
+    incoming::read_full(input, &mut buf[..n])
 }
 
 // "A kind that is not listed, a byte 1 that is not zero, a longer part, or an input that ends inside a request"
-fn bad() {
-    io::write_all(STDOUT_FILENO, b"bad\n");
+fn bad(rt: &impl Print) -> io::Result<()> {
+    rt.write_all(b"bad\n")
 }
 
 // Answers a request whose parts stand at the fronts of three buffers, and writes its line.
-fn answer(r: Request, a: &[u8], b: &mut [u8], c: &mut [u8], text: &mut [u8]) {
+fn answer(
+    rt: &impl Print,
+    r: Request,
+    a: &[u8],
+    b: &mut [u8],
+    c: &mut [u8],
+    text: &mut [u8],
+) -> io::Result<()> {
     let n = requests::answer(r.kind, r.limit, a, b, c, text);
-    io::write_all(STDOUT_FILENO, &text[..n]);
+    rt.write_all(&text[..n])
 }
 
 // The next request, answered: whether there may be another.
-fn answer_next(a: &mut [u8], b: &mut [u8], c: &mut [u8], text: &mut [u8]) -> bool {
+fn answer_next<R: Read>(
+    input: &mut R,
+    rt: &impl Print,
+    a: &mut [u8],
+    b: &mut [u8],
+    c: &mut [u8],
+    text: &mut [u8],
+) -> io::Result<bool> {
     let mut header = [0u8; 16];
-    let n = io::read_full(STDIN_FILENO, &mut header);
+    let n = incoming::read_full(input, &mut header)?;
     if n == 0 {
-        return false;
+        return Ok(false);
     }
     let r = read_header(&header);
     let known = (1 <= r.kind) & (r.kind <= requests::KINDS) & (header[1] == 0);
     if (n < 16) | !known {
-        bad();
-        return false;
+        bad(rt)?;
+        return Ok(false);
     }
-    let in_a = fill(a, r.a);
-    let in_b = fill(b, r.b);
-    let in_c = fill(c, r.c);
+    let in_a = fill(input, a, r.a)?;
+    let in_b = fill(input, b, r.b)?;
+    let in_c = fill(input, c, r.c)?;
     if (in_a != r.a) | (in_b != r.b) | (in_c != r.c) {
-        bad();
-        return false;
+        bad(rt)?;
+        return Ok(false);
     }
-    answer(r, &a[..in_a], &mut b[..in_b], &mut c[..in_c], text);
-    true
+    answer(rt, r, &a[..in_a], &mut b[..in_b], &mut c[..in_c], text)?;
+    Ok(true)
 }
 
 // Answers requests until the input ends or one is bad.
-fn answer_each(a: &mut [u8], b: &mut [u8], c: &mut [u8], text: &mut [u8]) {
+fn answer_each<R: Read>(
+    input: &mut R,
+    rt: &impl Print,
+    a: &mut [u8],
+    b: &mut [u8],
+    c: &mut [u8],
+    text: &mut [u8],
+) -> io::Result<()> {
     for _ in 0..MOST {
-        if !answer_next(a, b, c, text) {
-            return;
+        if !answer_next(input, rt, a, b, c, text)? {
+            return Ok(());
         }
     }
+    Ok(())
 }
 
-fn main() {
-    let mut a = io::large_buffer();
-    let mut b = io::large_buffer();
-    let mut c = io::large_buffer();
+fn main(rt: HostRuntime) -> io::Result<()> {
+    let mut a = [0u8; KEPT];
+    let mut b = [0u8; KEPT];
+    let mut c = [0u8; KEPT];
     let mut text = [0u8; LINE_LENGTH];
-    answer_each(&mut a, &mut b, &mut c, &mut text);
+    answer_each(&mut rt.stdin(), &rt, &mut a, &mut b, &mut c, &mut text)
 }

@@ -3,6 +3,7 @@
 //
 // `walk` is the one function that calls them, and is proved by hand. The loop over it has plain values in its locals.
 #![tactic(auto)]
+
 ghost use Rattle.std.specs.Prelude.{◌&&◌, ◌≡◌, ltb};
 ghost use Rattle.desk.specs.Bench.{Prints, bench_start, lines, printed, takes};
 ghost use Rattle.reader.specs.Events.{event_count};
@@ -11,6 +12,10 @@ ghost use Rattle.walker.specs.Stretches.{from, none_yet, quiet, until_shown};
 use desk::bench::{TEXT_LENGTH, show, stop};
 use resident::Applied;
 use rules::{Answer, Pair, Shown};
+use std::io;
+
+// What comes is kept up to this length: the longest run file has 36,892 bytes.
+const KEPT: usize = 65536;
 
 // What a stretch of events comes to: the place behind it, the pair that it leaves, and what its last event gave.
 #[derive(Clone, Copy)]
@@ -115,16 +120,16 @@ fn run(file: &[u8], text: &mut [u8]) -> usize
 }
 
 // Writes what is printed of a run file, whole and alone: `main` has to show that the text is that.
-fn write(file: &[u8], text: &[u8])
+fn write(rt: &impl Print, file: &[u8], text: &[u8]) -> io::Result<()>
     requires { text.now ≡ printed file.now }
 {
-    io::write_all(libc::STDOUT_FILENO, text);
+    rt.write_all(text)
 }
 
-fn main() {
-    let mut buf = io::large_buffer();
-    let n = io::read_full(libc::STDIN_FILENO, &mut buf);
+fn main(rt: HostRuntime) -> io::Result<()> {
+    let mut buf = [0u8; KEPT];
+    let n = incoming::read_full(&mut rt.stdin(), &mut buf)?;
     let mut text = [0u8; TEXT_LENGTH];
     let m = run(&buf[..n], &mut text);
-    write(&buf[..n], &text[..m]);
+    write(&rt, &buf[..n], &text[..m])
 }
