@@ -1,5 +1,6 @@
 // The events between the cards: LINK, ACK, FAIL, DETECT. Each is met by a sound pair: `step` asks for that once.
 #![tactic(auto)]
+
 ghost use Rattle.std.specs.Prelude.{◌≡◌, []};
 ghost use Rattle.rules.specs.declared.Event.TheVariants.{Link, Ack, Fail, Detect};
 ghost use Rattle.tidy.specs.Tidy.{Tidy, does};

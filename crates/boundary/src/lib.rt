@@ -1,5 +1,6 @@
 // The boundary of an epoch, in its parts.
 #![tactic(auto)]
+
 ghost use Rattle.std.specs.Prelude.{◌≡◌};
 ghost use Rattle.slots.specs.Slots.{entries, folded};
 ghost use Rattle.rules.specs.Boundary.{uncertain as uncertain_of, timer_interrupt, restart as restart_of};

@@ -1,5 +1,6 @@
 // A card's buffer: the interrupts that wait for the epoch's end, 16 slots, filled from the front.
 #![tactic(auto)]
+
 ghost use Rattle.std.specs.Prelude.{◌≡◌, [], ◌≤◌, length};
 ghost use Rattle.slots.specs.Slots.{entries, padded, pushed};
 ghost use Rattle.rules.specs.Guest.{listed, ops_of};

@@ -1,5 +1,6 @@
 // Decoding an event: any bytes to an event, or ill formed.
 #![tactic(auto)]
+
 ghost use Rattle.std.specs.Prelude.{◌≡◌};
 ghost use Rattle.rules.specs.Bytes.{heard as heard_of, event_of, read_event};
 ghost use Rattle.rules.specs.Events.{malformed as malformed_of};

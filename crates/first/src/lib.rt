@@ -1,5 +1,6 @@
 // P's instructions and interrupts: PSTEP, PINT. Each is met by a sound pair and a well formed event: `step` asks for both once.
 #![tactic(auto)]
+
 ghost use Rattle.std.specs.Prelude.{◌≡◌, true, false, []};
 ghost use Rattle.slots.specs.Slots.{pick, pushed};
 ghost use Rattle.rules.specs.declared.Event.TheVariants.{PStep, PInt};

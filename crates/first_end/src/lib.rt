@@ -1,5 +1,6 @@
 // The end of P's epoch: PTIME, PEND. Each is met by a sound pair and a well formed event: `step` asks for both once.
 #![tactic(auto)]
+
 ghost use Rattle.std.specs.Prelude.{◌≡◌, []};
 ghost use Rattle.rules.specs.declared.Event.TheVariants.{PTime, PEnd};
 ghost use Rattle.rules.specs.Instruction.{complete};

@@ -1,5 +1,6 @@
 // B's instructions and interrupts: BSTEP, BINT. Each is met by a sound pair and a well formed event: `step` asks for both once.
 #![tactic(auto)]
+
 ghost use Rattle.std.specs.Prelude.{◌≡◌, true, false, ◌||◌, []};
 ghost use Rattle.slots.specs.Slots.{entries, padded, pick};
 ghost use Rattle.rules.specs.declared.Decoded.TheVariants.{Good};

@@ -1,5 +1,6 @@
 // The end of B's epoch: BEND. It is met by a sound pair and a well formed event: `step` asks for both once.
 #![tactic(auto)]
+
 ghost use Rattle.std.specs.Prelude.{◌≡◌, [], ◌<◌};
 ghost use Rattle.slots.specs.Slots.{entries, padded};
 ghost use Rattle.rules.specs.declared.Event.TheVariants.{BEnd};

@@ -1,5 +1,6 @@
 // One instruction, with the clock as an argument.
 #![tactic(auto)]
+
 ghost use Rattle.std.specs.Prelude.{◌≡◌, ◌%◌, ◌<◌, true, false, ◌==◌, slice_index, slice_set};
 ghost use Rattle.slots.specs.Slots.{pick};
 ghost use Rattle.rules.specs.Guest.{with_reg, with_mem, with_timer, with_counts, reg as reg_of};

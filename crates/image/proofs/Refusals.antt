@@ -8,7 +8,7 @@ use lib.ListN.{length}
 use Rattle.forms.proofs.Refusing.{Chain, chain, fitting}
 use Rattle.forms.specs.Lent.{refusing}
 use Rattle.layout.specs.Image.{image_at, image_length, sound_image}
-use Rattle.rules.specs.{Events.{number, refuse, refused, taken}, PairSlots.{outcome, sound_pair, zero_pair}, Program.{Setup, good}, declared.{Answer.Answer, Answer.TheVariants.Taken, Pair.Pair, Refusal.TheVariants.{BadFile, BadProgram, Unsound}, Shown.TheVariants.Nothing}}
+use Rattle.rules.specs.{Events.{number, refuse, taken}, PairSlots.{outcome, sound_pair, zero_pair}, Program.{Setup, good}, declared.{Answer.TheVariants.Taken, Pair.Pair, Refusal.TheVariants.{BadFile, BadProgram, Unsound}, Shown.TheVariants.Nothing}}
 use Rattle.image.specs.{Refusals.{LoadRefusals, RetireRefusals, SaveRefusals}, Stores.{loaded, retire_answer, room, save_answer}}
 
 pub save-refusals : (s : Pair) (buf : List ℕ) → SaveRefusals s buf

@@ -1,5 +1,6 @@
 // The stored image of a pair: saving, loading, and retiring a card's store. 01, "Stored forms" and "Numbers that come back".
 #![tactic(auto)]
+
 ghost use Rattle.std.specs.Prelude.{◌≡◌, length};
 ghost use Rattle.image.specs.Stores.{Fitted, Saved, loaded, zeros, Retired};
 ghost use Rattle.rules.specs.Events.{refused};

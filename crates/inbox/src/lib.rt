@@ -1,5 +1,6 @@
 // B's inbox, 128 slots: the messages that B has received and not used up, the oldest first.
 #![tactic(auto)]
+
 ghost use Rattle.std.specs.Prelude.{◌≡◌, ◌≤◌, length};
 ghost use Rattle.slots.specs.Slots.{entries, padded, pushed};
 ghost use Rattle.rules.specs.Messages.{has_end, drop_val, drop_epoch};

@@ -1,5 +1,6 @@
 // The link, 58 slots: the messages that P has sent and B has not received, the oldest first.
 #![tactic(auto)]
+
 ghost use Rattle.std.specs.Prelude.{◌≡◌, ◌≤◌, length, drop};
 ghost use Rattle.slots.specs.Slots.{entries, padded, pushed};
 ghost use Rattle.rules.specs.PairSlots.{used_message, zero_message};

@@ -1,5 +1,6 @@
 // One message between the cards: a free slot, a message made, a message looked at.
 #![tactic(auto)]
+
 ghost use Rattle.std.specs.Prelude.{◌≡◌};
 ghost use Rattle.rules.specs.GuestSlots.{zero_op};
 ghost use Rattle.rules.specs.Messages.{int as int_of, interrupt_of, of_kind as of_kind_of};

@@ -8,7 +8,6 @@ use Rattle.rules.specs.declared.Pair.{Pair}
 use Rattle.rules.specs.declared.Phase.TheVariants.{Running}
 use Rattle.rules.specs.declared.Role.TheVariants.{Following}
 use Rattle.rules.specs.declared.Shown.{Shown}
-use Rattle.slots.specs.Slots.{count}
 
 -- a pair in which nothing has happened: P in epoch e, B in epoch 0, following; under N and L
 abbrev pub blank : EpochNo → ℕ → ℕ → Pair

@@ -1,5 +1,6 @@
 // What comes back: an outcome that is refused or taken, and set-up.
 #![tactic(auto)]
+
 ghost use Rattle.std.specs.Prelude.{◌≡◌};
 ghost use Rattle.rules.specs.Guest.{fresh};
 ghost use Rattle.rules.specs.GuestSlots.{laid_guest};

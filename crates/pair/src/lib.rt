@@ -1,5 +1,6 @@
 // Whether a pair is sound: a test of any struct whatever, all of 01's paragraph.
 #![tactic(auto)]
+
 ghost use Rattle.std.specs.Prelude.{◌≡◌, true, ◌&&◌, ◌+◌, ◌≤◌, leb, drop};
 ghost use Rattle.slots.specs.Slots.{entries, padded, tight, every};
 ghost use Rattle.rules.specs.Guest.{listed, ops_of};

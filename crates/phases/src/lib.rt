@@ -1,5 +1,6 @@
 // Which phase a card is in, and the pair with P in another.
 #![tactic(auto)]
+
 ghost use Rattle.std.specs.Prelude.{◌≡◌};
 ghost use Rattle.rules.specs.Pair.{is_failed, is_waiting, is_following, is_promoted};
 ghost use Rattle.phases.specs.Phase.{in_phase};

@@ -12,7 +12,7 @@ use Rattle.rules.specs.Events.{Verdict, kind, refused, step, taken}
 use Rattle.rules.specs.GuestSlots.{laid_guest, zero_interrupt}
 use Rattle.rules.specs.History.{History, after, feed, feed_stored, fresh_history, fresh_stored, laid_history, noted, recorded, run, run_stored}
 use Rattle.rules.specs.Lone.{LoneStep}
-use Rattle.rules.specs.Messages.{first, only}
+use Rattle.rules.specs.Messages.{only}
 use Rattle.rules.specs.PairSlots.{apply, laid, laid_card, stored}
 use Rattle.rules.specs.Program.{Setup}
 use Rattle.rules.specs.declared.Event.{Event}

@@ -4,7 +4,6 @@ use mathlib.Core.List.{List, [], ◌++◌, ◌∷◌, append_assoc, append-nil}
 use mathlib.Core.Path.{◌∙◌, ◌≡◌, ap, refl, subst, sym}
 use Prim.Native.Nat.{◌<◌, ◌≤◌, ℕ}
 use borrow.Author.Tests.{not-false}
-use lib.Dec.{T}
 use native.Mathlib.Nat.{le_refl}
 use native.Mathlib.Omega.{arith}
 use Rattle.rules.proofs.Choices.{clash, pick_case}

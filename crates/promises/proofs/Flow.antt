@@ -1,7 +1,6 @@
 -- How many messages of one epoch there can be: at most 58.
 use mathlib.Core.Bool.{false, not}
 use mathlib.Core.List.{List, [], ◌++◌, ◌∷◌, append_assoc}
-use mathlib.Core.Option.{none}
 use mathlib.Core.Path.{◌∙◌, ◌≡◌, ap, refl, subst, sym}
 use Prim.Native.Nat.{◌+◌, ◌<◌, ◌≤◌, suc, zero-le, ℕ}
 use borrow.Author.Tests.{eq-eqb, eqb-false, eqb-true, ne_eqb}

@@ -9,7 +9,7 @@ use Rattle.rules.proofs.Choices.{by_cases, clash, or_right}
 use Rattle.rules.proofs.Operations.{all_listed}
 use Rattle.rules.proofs.PairWhole.{Whole}
 use Rattle.rules.proofs.Verdicts.{IfTaken}
-use Rattle.rules.specs.Boundary.{boundary, told}
+use Rattle.rules.specs.Boundary.{boundary}
 use Rattle.rules.specs.Events.{Verdict, taken}
 use Rattle.rules.specs.Guest.{listed, ops_of}
 use Rattle.rules.specs.GuestSound.{proper, says}

@@ -4,7 +4,7 @@ use mathlib.Core.List.{List, [], ◌++◌, ◌∷◌}
 use mathlib.Core.Path.{◌∙◌, ◌≡◌, ap, refl, subst, sym}
 use Prim.Native.Nat.{◌≤◌, suc, ℕ}
 use borrow.Author.Tests.{eqb-false, eqb-true, not-false}
-use lib.Dec.{T, eqb, lit≤}
+use lib.Dec.{eqb, lit≤}
 use lib.ListN.{length, length-append}
 use native.Mathlib.Numerals.{add-one}
 use native.Mathlib.Omega.{arith}

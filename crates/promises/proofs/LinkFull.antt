@@ -4,7 +4,7 @@ use mathlib.Core.List.{List, [], ◌++◌, ◌∷◌}
 use mathlib.Core.Path.{◌∙◌, ◌≡◌, ap, refl, subst, sym}
 use Prim.Native.Nat.{◌*◌, ◌+◌, ◌<◌, ◌≤◌, suc, suc-le-suc, zero-le, ℕ}
 use borrow.Author.Tests.{eq-eqb, eqb-false, eqb-true, leb-false, ne_eqb}
-use lib.Dec.{T, eqb, leb}
+use lib.Dec.{eqb, leb}
 use lib.ListN.{length, take}
 use native.Mathlib.Nat.{le_refl}
 use native.Mathlib.Omega.{arith}
@@ -16,7 +16,7 @@ use Rattle.rules.proofs.Lists.{All, all_left, all_map, count-append}
 use Rattle.rules.proofs.Messages.{epoch_of}
 use Rattle.rules.proofs.PairKept.{after_b, whole-bstep}
 use Rattle.rules.proofs.PairSlots.{apply-laid, whole-fits}
-use Rattle.rules.proofs.PairWhole.{Whole, whole, whole-sound}
+use Rattle.rules.proofs.PairWhole.{Whole, whole-sound}
 use Rattle.rules.specs.Bytes.{read_event, stepped}
 use Rattle.rules.specs.Events.{Verdict, ended, handle, in_front, malformed, number, refuse, step, taken}
 use Rattle.rules.specs.History.{History}
@@ -27,7 +27,6 @@ use Rattle.rules.specs.Pair.{idle, is_following, next_epoch, on_b, ran_on, setup
 use Rattle.rules.specs.PairSlots.{answer_number, laid, outcome, sound_pair, stored}
 use Rattle.rules.specs.Program.{Setup, exec, good, instr, under}
 use Rattle.rules.specs.Sound.{sound}
-use Rattle.rules.specs.declared.Answer.TheVariants.{Taken}
 use Rattle.rules.specs.declared.Event.{Event}
 use Rattle.rules.specs.declared.Event.TheVariants.{BEnd, BStep}
 use Rattle.rules.specs.declared.Message.{Message}
@@ -43,7 +42,7 @@ use Rattle.rules.specs.declared.Shown.TheVariants.{Nothing}
 use Rattle.slots.proofs.Tests.{or_false}
 use Rattle.promises.proofs.Bytes.{stepped_well}
 use Rattle.promises.proofs.Flow.{Flow, count_58, count-two, flow_reached}
-use Rattle.promises.proofs.Invariant.{CoreOf, Inv, Stand, ahead, alone, behind, gone, less}
+use Rattle.promises.proofs.Invariant.{CoreOf, Inv, Stand, ahead, alone, behind, gone}
 use Rattle.promises.proofs.OneCard.{Stage, stage}
 use Rattle.promises.proofs.Order.{has_end-append, has_end-unread, order_before}
 use Rattle.promises.proofs.Refusals.{end_may, refusals}

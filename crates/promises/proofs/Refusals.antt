@@ -3,9 +3,9 @@ use mathlib.Core.Bool.{Bool, ◌&&◌, false, not, true}
 use mathlib.Core.List.{List, [], ◌∷◌}
 use mathlib.Core.Logic.{◌↔◌, ◌⊎◌, inl, inr}
 use mathlib.Core.Path.{◌∙◌, ◌≡◌, ap, refl, subst, sym}
-use Prim.Native.Nat.{◌*◌, ◌≤◌, ℕ}
+use Prim.Native.Nat.{◌*◌, ℕ}
 use borrow.Author.Tests.{eq-eqb, eqb-false, eqb-true, le-leb, leb-true, ne_eqb, not-false, not-true}
-use lib.Dec.{eqb, lit≤}
+use lib.Dec.{eqb}
 use lib.ListN.{length}
 use native.Mathlib.Omega.{arith}
 use Rattle.rules.proofs.Answers.{not_zero, one_number}
@@ -32,7 +32,6 @@ use Rattle.rules.specs.declared.Refusal.TheVariants.{BadFile, BadProgram, Dead, 
 use Rattle.rules.specs.declared.Role.{Role}
 use Rattle.rules.specs.declared.Role.TheVariants.{Failover, Following, Promoted}
 use Rattle.slots.proofs.Tests.{and_true, or_false}
-use Rattle.slots.specs.Slots.{pick}
 use Rattle.promises.proofs.Ledger.{no_cons}
 use Rattle.promises.proofs.Runs.{made-bad, made-good}
 use Rattle.promises.specs.Refusals.{At, Broken, Comes, Dying, Formed, Full, MayEnd, Misformed, Refusals, SetUps, Unknown, Untimely, UsedUp, Waits, ack_dead, ack_none, bend_early, bend_last, bend_neither, bint_unknown, bstep_bad, bstep_done, bstep_idle, detect_again, detect_early, detect_in_flight, fail_dead, link_empty, link_no_room, pend_dead, pend_early, pend_last, pend_unacknowledged, pint_dead, pint_unknown, pstep_bad, pstep_dead, pstep_done, ptime_again, ptime_dead, ptime_early}

@@ -4,7 +4,7 @@ use mathlib.Core.List.{List, [], ◌∷◌}
 use mathlib.Core.Logic.{◌⊎◌, inl, inr}
 use mathlib.Core.Path.{◌∙◌, ◌≡◌, ap, refl, subst, sym}
 use Prim.Native.Nat.{◌*◌, ◌<◌, ◌≤◌, ℕ}
-use lib.Dec.{T, lit≤}
+use lib.Dec.{lit≤}
 use lib.ListN.{length}
 use native.Mathlib.Omega.{arith}
 use Rattle.rules.proofs.Answers.{taken-zero, zero-taken}
@@ -14,7 +14,7 @@ use Rattle.rules.proofs.PairKept.{sound-apply, sound-step, whole-handle}
 use Rattle.rules.proofs.PairSlots.{laid-seen-pair, seen-laid-pair, sound-laid-pair, sound-seen-pair, sound-tight, whole-fits}
 use Rattle.rules.proofs.PairWhole.{Whole, at-most_58, buffered, whole_fresh}
 use Rattle.rules.proofs.Verdicts.{IfTaken, if_after, if_any, if_verdict}
-use Rattle.rules.specs.Events.{handle, malformed, refused, step}
+use Rattle.rules.specs.Events.{handle, malformed, step}
 use Rattle.rules.specs.Guest.{fresh}
 use Rattle.rules.specs.GuestSlots.{laid_guest, seen_guest}
 use Rattle.rules.specs.History.{History, after, feed, fresh_history, laid_history, run}
@@ -22,7 +22,6 @@ use Rattle.rules.specs.Pair.{fresh_pair, setup_of}
 use Rattle.rules.specs.PairSlots.{answer_number, apply, laid, laid_card, made, outcome, seen, seen_card, sound_pair, zero_pair}
 use Rattle.rules.specs.Program.{Setup, good, under}
 use Rattle.rules.specs.Sound.{unacknowledged}
-use Rattle.rules.specs.declared.Answer.TheVariants.{Refused, Taken}
 use Rattle.rules.specs.declared.Event.{Event}
 use Rattle.rules.specs.declared.Outcome.{Outcome}
 use Rattle.rules.specs.declared.Pair.{Pair}

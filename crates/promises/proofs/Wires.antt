@@ -13,7 +13,6 @@ use Rattle.rules.proofs.Lists.{All, all_append, all_map}
 use Rattle.rules.proofs.Messages.{Without, epoch_of, part_drop_epoch, part_unread}
 use Rattle.rules.proofs.Parts.{Part, keep-each, part_all, part_append}
 use Rattle.rules.specs.Events.{unread}
-use Rattle.rules.specs.Instruction.{oldest}
 use Rattle.rules.specs.Messages.{drop_epoch, end, has_end, is_end, of_epoch, of_kind}
 use Rattle.rules.specs.Pair.{next_epoch}
 use Rattle.rules.specs.Program.{Setup}

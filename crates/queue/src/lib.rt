@@ -1,5 +1,6 @@
 // The interrupt queue: 17 slots, filled from the front, the oldest first.
 #![tactic(auto)]
+
 ghost use Rattle.std.specs.Prelude.{◌≡◌, ◌≤◌, length, drop};
 ghost use Rattle.slots.specs.Slots.{entries, padded, pushed, count as count_of};
 ghost use Rattle.rules.specs.Instruction.{is_timer, is_device, oldest as oldest_of};

@@ -12,7 +12,6 @@ use Rattle.slots.specs.Slots.{keep}
 use Rattle.rules.proofs.Choices.{pick_case}
 use Rattle.rules.proofs.Lists.{All, all_map}
 use Rattle.rules.specs.GuestSound.{ascending}
-use Rattle.rules.specs.Lone.{bound}
 use Rattle.rules.specs.declared.OpNo.{OpNo}
 
 abbrev pub Ascends : ℕ → ℕ → List OpNo → Type 0

@@ -11,7 +11,7 @@ use native.Mathlib.Nat.{le_refl, le_trans}
 use native.Mathlib.Omega.{arith}
 use Rattle.slots.proofs.Lists.{keep_less}
 use Rattle.slots.proofs.Tests.{and_true, both, or_false}
-use Rattle.slots.specs.Slots.{count, entries, pick}
+use Rattle.slots.specs.Slots.{count, pick}
 use Rattle.rules.proofs.Ascending.{Ascends, ascends_above, ascends_keep, ascends_next}
 use Rattle.rules.proofs.Choices.{pick_case}
 use Rattle.rules.proofs.Decode.{good_inside, instr_inside}
@@ -20,13 +20,11 @@ use Rattle.rules.proofs.GuestSlots.{FitsGuest, fits-sound, laid-seen, seen-laid,
 use Rattle.rules.proofs.GuestWhole.{WholeGuest, fresh-whole, guest-whole, outstanding, proper-device, proper-entry, uncertain-proper, whole-guest}
 use Rattle.rules.proofs.Lists.{All, all_append, all_tail, count-append, count-one, count_other, count_tail, every-all, folded_keeps}
 use Rattle.rules.specs.Boundary.{boundary, deliver, delivers, due, failover, other_op, restart, rings, tell_uncertain, timer, timer_interrupt, told, uncertain}
-use Rattle.rules.specs.Decode.{none}
 use Rattle.rules.specs.Guest.{fresh, listed}
 use Rattle.rules.specs.GuestKept.{GuestKept, Kept, SoundGuest}
 use Rattle.rules.specs.GuestSlots.{laid_guest, seen_guest, sound_in_memory, tight_guest}
 use Rattle.rules.specs.GuestSound.{proper, sound_entry, sound_guest}
 use Rattle.rules.specs.Instruction.{cannot_start, complete, is_device, is_time, is_timer, next, next_op, perform}
-use Rattle.rules.specs.Lone.{instruction}
 use Rattle.rules.specs.Program.{Setup, exec, instr}
 use Rattle.rules.specs.declared.Guest.{Guest}
 use Rattle.rules.specs.declared.Instr.{Instr}

@@ -22,12 +22,11 @@ use Rattle.rules.proofs.PairWhole.{Whole, WholeBuffer, extra-one, spent, whole, 
 use Rattle.rules.proofs.Parts.{Part, part_all, part_length, part_self}
 use Rattle.rules.proofs.Verdicts.{IfTaken, if_linked, if_verdict, unless}
 use Rattle.rules.specs.Boundary.{boundary}
-use Rattle.rules.specs.Decode.{none}
 use Rattle.rules.specs.Events.{Verdict, ended, handle, in_front, malformed, sends, step, turned, turned_last, unread}
 use Rattle.rules.specs.Guest.{listed, ops_of}
 use Rattle.rules.specs.GuestSound.{proper}
-use Rattle.rules.specs.Instruction.{complete, is_time, next, start}
-use Rattle.rules.specs.Messages.{drop_epoch, end, first, gather, has_end, int, int_of, interrupt_of, ints, of_kind, only, place, tme, val}
+use Rattle.rules.specs.Instruction.{complete, is_time, next}
+use Rattle.rules.specs.Messages.{drop_epoch, end, gather, has_end, int, int_of, interrupt_of, ints, of_kind, only, place, tme, val}
 use Rattle.rules.specs.Pair.{acknowledged, awaited, buffers, clock_sent, enters, fresh_pair, halted, idle, is_failed, is_following, is_promoted, is_waiting, next_epoch, noticed, on_b, on_p, ran_on, received, setup_of}
 use Rattle.rules.specs.PairKept.{PairKept}
 use Rattle.rules.specs.PairSlots.{apply, seen, sound_pair}

@@ -16,8 +16,7 @@ use Rattle.rules.proofs.Operations.{Distinct, distinct_once, once_distinct, pige
 use Rattle.rules.specs.Guest.{fresh, listed, ops_of}
 use Rattle.rules.specs.GuestSound.{proper, sound_guest}
 use Rattle.rules.specs.Instruction.{complete}
-use Rattle.rules.specs.Messages.{first}
-use Rattle.rules.specs.Pair.{fresh_pair, idle, is_failed, is_following, is_promoted, is_waiting, noticed}
+use Rattle.rules.specs.Pair.{fresh_pair, idle, is_failed, is_following, is_promoted, is_waiting}
 use Rattle.rules.specs.Program.{Setup, good}
 use Rattle.rules.specs.Sound.{extra, once, sound, sound_buffer, sound_limits, sound_message, sound_turns, sound_wires, unacknowledged}
 use Rattle.rules.specs.declared.Card.{Card}

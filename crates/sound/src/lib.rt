@@ -1,5 +1,6 @@
 // Whether a guest is sound under N and L: a test of any struct whatever.
 #![tactic(auto)]
+
 ghost use Rattle.std.specs.Prelude.{◌≡◌, true, ◌&&◌};
 ghost use Rattle.slots.specs.Slots.{entries, tight, every};
 ghost use Rattle.rules.specs.GuestSound.{proper as proper_of, sound_entry as sound_entry_of, ascending};

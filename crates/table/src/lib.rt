@@ -1,5 +1,6 @@
 // The table of outstanding operations: 16 slots, filled from the front.
 #![tactic(auto)]
+
 ghost use Rattle.std.specs.Prelude.{◌≡◌, ◌≤◌, length};
 ghost use Rattle.slots.specs.Slots.{entries, padded, pushed, keep};
 ghost use Rattle.rules.specs.Guest.{listed};

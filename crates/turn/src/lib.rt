@@ -1,5 +1,6 @@
 // The boundary of B's epoch, by the messages in its inbox: as P told it, and in failover.
 #![tactic(auto)]
+
 ghost use Rattle.std.specs.Prelude.{◌≡◌};
 ghost use Rattle.slots.specs.Slots.{entries};
 ghost use Rattle.rules.specs.Messages.{ints};

@@ -1,5 +1,4 @@
 use mathlib.Core.Path.{◌∙◌, sym}
-use borrow.Author.Rules.{rules}
 use Rattle.between.proofs.Columns.{ack_dead_lem, ack_none_lem, ack-taken}
 use Rattle.between.proofs.ack.Goals as goal
 

@@ -1,5 +1,4 @@
 use mathlib.Core.Path.{◌∙◌, sym}
-use borrow.Author.Rules.{rules}
 use Rattle.rules.specs.Pair.{noticed}
 use Rattle.between.proofs.Columns.{detect_early_lem, detect-taken, detect-waits}
 use Rattle.between.proofs.detect.Goals as goal

@@ -1,5 +1,4 @@
 use mathlib.Core.Path.{◌∙◌, sym}
-use borrow.Author.Rules.{rules}
 use Rattle.rules.specs.Pair.{halted}
 use Rattle.between.proofs.Columns.{fail_dead_lem, fail-taken}
 use Rattle.between.proofs.fail.Goals as goal

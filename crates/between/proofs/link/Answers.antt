@@ -1,5 +1,4 @@
 use mathlib.Core.Path.{◌∙◌, sym}
-use borrow.Author.Rules.{rules}
 use native.Mathlib.Omega.{arith}
 use Rattle.between.proofs.Columns.{few-acks, link_full_lem, link_none_lem, link-taken}
 use Rattle.between.proofs.link.Goals as goal

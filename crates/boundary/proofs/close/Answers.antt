@@ -1,4 +1,3 @@
-use borrow.Author.Rules.{rules}
 use Rattle.boundary.specs.InSlots.{close_in}
 use Rattle.boundary.proofs.close.Goals as goal
 

@@ -1,5 +1,4 @@
 use borrow.Author.Rules.{rules}
-use borrow.Author.Tests.{not-false, not-true}
 use Rattle.boundary.specs.InSlots.{deliver_in}
 use Rattle.boundary.proofs.deliver.Goals as goal
 

@@ -1,12 +1,9 @@
-use mathlib.Core.Path.{◌∙◌, ◌≡◌, ap, refl, sym}
-use Prim.Native.Nat.{◌-◌, ◌≤◌}
+use mathlib.Core.Path.{◌∙◌, ap, sym}
 use borrow.Author.Rules.{rules}
-use lib.ListN.{drop}
 use Rattle.rules.specs.GuestSlots.{used_interrupt, zero_interrupt}
 use Rattle.slots.proofs.Entries.{entries-end, entries_go, entries-stop}
 use Rattle.slots.proofs.Lists.{folded-cons, folded-nil}
 use Rattle.slots.proofs.Tests.{is_free, is_used}
-use Rattle.slots.specs.Slots.{entries}
 use Rattle.boundary.specs.InSlots.{delivers_in}
 use Rattle.boundary.proofs.deliver_all.Goals as goal
 

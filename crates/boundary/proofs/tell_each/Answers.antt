@@ -1,17 +1,9 @@
-use mathlib.Core.List.{List}
-use mathlib.Core.Path.{◌∙◌, ◌≡◌, ap, refl, sym}
-use Prim.Native.Nat.{◌-◌, ◌≤◌}
+use mathlib.Core.Path.{◌∙◌, ap, sym}
 use borrow.Author.Rules.{rules}
-use lib.ListN.{drop}
-use Rattle.rules.specs.Boundary.{uncertain}
 use Rattle.rules.specs.GuestSlots.{used_op, zero_op}
-use Rattle.rules.specs.declared.Guest.{Guest}
-use Rattle.rules.specs.declared.OpNo.{OpNo}
 use Rattle.slots.proofs.Entries.{entries-end, entries_go, entries-stop}
 use Rattle.slots.proofs.Lists.{folded-cons, folded-nil}
 use Rattle.slots.proofs.Tests.{is_free, is_used}
-use Rattle.slots.specs.Slots.{entries, folded}
-use Rattle.boundary.specs.InSlots.{deliver_in}
 use Rattle.boundary.proofs.tell_each.Invariants.{tells}
 use Rattle.boundary.proofs.tell_each.Goals as goal
 

@@ -1,12 +1,10 @@
-use mathlib.Core.Path.{◌≡◌, ap}
-use Prim.Native.Nat.{◌+◌, ◌-◌, ◌≤◌}
+use mathlib.Core.Path.{ap}
 use borrow.Author.Rules.{rules}
-use lib.ListN.{drop, length}
+use lib.ListN.{length}
 use native.Mathlib.Omega.{arith}
 use Rattle.rules.specs.GuestSlots.{used_interrupt, zero_interrupt}
 use Rattle.slots.proofs.Entries.{entries-end, entries_go, entries-stop}
 use Rattle.slots.proofs.Tests.{is_free, is_used}
-use Rattle.slots.specs.Slots.{entries}
 use Rattle.buffer.proofs.count.Goals as goal
 
 pub returns-then-xs-i-eq0-clause-is : goal.returns-then-xs-i-eq0-clause-is

@@ -1,13 +1,8 @@
-use mathlib.Core.Path.{◌∙◌, ◌≡◌, ap, refl, sym}
+use mathlib.Core.Path.{◌≡◌}
 use Prim.Native.Nat.{◌-◌, ◌≤◌}
-use borrow.Author.Rules.{rules}
-use borrow.Author.Tests.{eq-eqb, ne_eqb}
 use lib.ListN.{drop}
 use Rattle.rules.specs.Guest.{listed, ops_of}
-use Rattle.rules.specs.GuestSlots.{used_interrupt, zero_interrupt}
-use Rattle.slots.proofs.Entries.{entries-end, entries_go, entries-stop}
-use Rattle.slots.proofs.Lists.{any_here, any-later, any-nil}
-use Rattle.slots.proofs.Tests.{is_free, is_used}
+use Rattle.rules.specs.GuestSlots.{used_interrupt}
 use Rattle.slots.specs.Slots.{entries}
 use Rattle.buffer.proofs.has.Given as goal
 

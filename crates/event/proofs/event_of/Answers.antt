@@ -1,5 +1,4 @@
 use borrow.Author.Rules.{rules}
-use borrow.Author.Tests.{ne_eqb}
 use Rattle.rules.specs.Bytes.{event_of}
 use Rattle.event.proofs.event_of.Goals as goal
 

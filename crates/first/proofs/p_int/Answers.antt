@@ -1,8 +1,5 @@
-use mathlib.Core.Bool.{◌&&◌, not}
 use mathlib.Core.List.{[]}
 use mathlib.Core.Path.{◌∙◌, sym}
-use borrow.Author.Rules.{rules}
-use borrow.Author.Tests.{not-false, not-true}
 use Rattle.first.proofs.Columns.{awaited-is, pint_dead_lem, pint-taken, pint_unknown_lem}
 use Rattle.first.proofs.p_int.Goals as goal
 

@@ -1,5 +1,4 @@
 use mathlib.Core.Path.{refl}
-use borrow.Author.Rules.{rules}
 use Rattle.first.proofs.Columns.{pstep-taken}
 use Rattle.first.proofs.p_run.Goals as goal
 

@@ -1,5 +1,4 @@
 use mathlib.Core.Path.{◌∙◌, sym}
-use borrow.Author.Rules.{rules}
 use Rattle.first.proofs.Columns.{pstep_bad_lem, pstep_dead_lem, pstep_done_lem}
 use Rattle.first.proofs.p_step.Goals as goal
 

@@ -1,11 +1,9 @@
 use mathlib.Core.List.{[]}
 use mathlib.Core.Path.{◌∙◌, sym}
-use borrow.Author.Tests.{eq-eqb, eqb-false, ne_eqb, not-false, not-true}
+use borrow.Author.Tests.{eq-eqb, ne_eqb}
 use native.Mathlib.Numerals.{add-one}
-use native.Mathlib.Omega.{arith}
 use Rattle.rules.specs.Messages.{end}
 use Rattle.first_end.proofs.Columns.{pend_dead_lem, pend_early_lem, pend-taken, pend_used, pend_waits_lem}
-use borrow.Author.Rules.{rules}
 use Rattle.first_end.proofs.p_end.Goals as goal
 
 pub returns-then-is_failed : goal.returns-then-is_failed
@@ -22,6 +20,6 @@ returns-then-unacknowledged-ne0 c = rw c.refused-then-unacknowledged-ne0.ensures
 
 pub returns : goal.returns
 unfolding end
-returns c = 
+returns c =
     rw (c.taken.ensures, c.with_phase.ensures, c.send-sent.ensures, c.worded.ensures, c.empty-buffer.ensures, c.boundary-guest.ensures, c.clock_sent.ensures, add-one)
     (pend-taken [] c.args.pair (sym c.is_failed.ensures ∙ c.if-is_failed.false) c.requires (sym c.is_waiting.ensures ∙ c.if-not-is_waiting.false) (ne_eqb _ _ c.if-used_up.false) (eq-eqb _ _ (rw c.count.ensures.is at c.if-unacknowledged-ne0.false)))

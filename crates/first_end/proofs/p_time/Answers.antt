@@ -1,6 +1,5 @@
 use mathlib.Core.List.{[]}
 use mathlib.Core.Path.{◌∙◌, sym}
-use borrow.Author.Rules.{rules}
 use Rattle.rules.specs.Messages.{tme}
 use Rattle.first_end.proofs.Columns.{ptime_dead_lem, ptime_early_lem, ptime-taken}
 use Rattle.first_end.proofs.p_time.Goals as goal

@@ -1,7 +1,4 @@
-use mathlib.Core.Bool.{◌&&◌, not}
 use mathlib.Core.Path.{◌∙◌, sym}
-use borrow.Author.Rules.{rules}
-use borrow.Author.Tests.{not-false, not-true}
 use Rattle.rules.specs.Pair.{on_b}
 use Rattle.follow.proofs.Interrupt.{bint-ignored, bint-taken, bint_unknown_lem}
 use Rattle.follow.proofs.b_int.Goals as goal

@@ -1,4 +1,3 @@
-use borrow.Author.Rules.{rules}
 use Rattle.rules.specs.Pair.{on_b, ran_on}
 use Rattle.follow.proofs.Instruction.{bstep-taken}
 use Rattle.follow.proofs.b_run.Goals as goal

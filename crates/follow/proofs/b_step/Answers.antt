@@ -1,5 +1,4 @@
 use mathlib.Core.Path.{◌∙◌, sym}
-use borrow.Author.Rules.{rules}
 use Rattle.follow.proofs.Instruction.{bstep_bad_lem, bstep-early}
 use Rattle.follow.proofs.b_step.Goals as goal
 

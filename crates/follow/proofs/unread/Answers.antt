@@ -1,5 +1,4 @@
 use borrow.Author.Rules.{rules}
-use Rattle.tidy.proofs.Times.{not_time}
 use Rattle.rules.specs.Instruction.{is_time}
 use Rattle.follow.proofs.unread.Goals as goal
 

@@ -1,7 +1,5 @@
 use mathlib.Core.Path.{◌∙◌}
-use borrow.Author.Rules.{rules}
 use borrow.Author.Tests.{eq-eqb, ne_eqb}
-use native.Mathlib.Omega.{arith}
 use Rattle.rules.specs.declared.Role.TheVariants.{Failover, Following, Promoted}
 use Rattle.follow_end.proofs.Turn.{bend_by_role, bend_early_lem, bend_used_up_lem}
 use Rattle.follow_end.proofs.b_end.Goals as goal

@@ -1,6 +1,5 @@
 use mathlib.Core.Bool.{false, true}
 use mathlib.Core.Path.{◌∙◌, refl, sym}
-use borrow.Author.Rules.{rules}
 use native.Mathlib.Numerals.{add-one}
 use Rattle.follow_end.proofs.Turn.{following-goes, following-waits}
 use Rattle.follow_end.proofs.end_following.Goals as goal

@@ -1,4 +1,3 @@
-use borrow.Author.Rules.{rules}
 use Rattle.follow_end.proofs.Turn.{promoted-goes}
 use Rattle.follow_end.proofs.end_promoted.Goals as goal
 

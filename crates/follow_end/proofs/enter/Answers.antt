@@ -1,4 +1,3 @@
-use borrow.Author.Rules.{rules}
 use native.Mathlib.Numerals.{add-one}
 use Rattle.rules.specs.Pair.{on_b}
 use Rattle.follow_end.specs.InSlots.{enters_in}

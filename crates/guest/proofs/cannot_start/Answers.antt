@@ -1,8 +1,5 @@
-use Rattle.std.proofs.Common.{◌+◌, eqb, arith, rules}
-use borrow.Author.Tests.{eqb-false}
 use Rattle.rules.specs.GuestSlots.{seen_guest}
 use Rattle.rules.specs.Instruction.{cannot_start}
-use Rattle.slots.proofs.Tests.{or_false}
 use Rattle.guest.proofs.cannot_start.Goals as goal
 
 pub returns-clause-is : goal.returns-clause-is

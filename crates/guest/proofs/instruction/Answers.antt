@@ -1,4 +1,4 @@
-use Rattle.std.proofs.Common.{leb, sym, ◌∙◌, arith, rules, leb-false}
+use Rattle.std.proofs.Common.{leb, sym, ◌∙◌, arith, leb-false}
 use Rattle.rules.specs.Instruction.{complete}
 use Rattle.slots.proofs.Tests.{or_false}
 use Rattle.guest.specs.InSlots.{instruction_in}

@@ -1,4 +1,4 @@
-use Rattle.std.proofs.Common.{suc, add-one, arith, rules, le-ltb, lt-ltb}
+use Rattle.std.proofs.Common.{suc, add-one, arith, le-ltb, lt-ltb}
 use Rattle.rules.specs.Instruction.{next}
 use Rattle.guest.proofs.next.Goals as goal
 

@@ -1,4 +1,4 @@
-use Rattle.std.proofs.Common.{◌≡◌, ℕ, zero, suc, ◌/◌, sym, refl, rules}
+use Rattle.std.proofs.Common.{◌≡◌, ℕ, zero, suc, ◌/◌, sym, refl}
 use Rattle.rules.specs.Instruction.{quotient}
 use Rattle.guest.proofs.quotient.Goals as goal
 

@@ -1,4 +1,4 @@
-use Rattle.std.proofs.Common.{add-one, arith, rules}
+use Rattle.std.proofs.Common.{rules}
 use Rattle.rules.specs.Instruction.{starts}
 use Rattle.guest.specs.InSlots.{start_in}
 use Rattle.guest.proofs.start.Goals as goal

@@ -1,5 +1,4 @@
 use mathlib.Core.Path.{◌∙◌, ap, sym}
-use borrow.Author.Rules.{rules}
 use Rattle.rules.specs.declared.Outcome.{Outcome}
 use Rattle.image.proofs.Stores.{retired_bad, retired_fitted}
 use Rattle.image.proofs.retire.Goals as goal

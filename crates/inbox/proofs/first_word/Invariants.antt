@@ -1,16 +1,7 @@
-use mathlib.Core.Bool.{false, true}
-use mathlib.Core.List.{List, [], ◌∷◌}
-use mathlib.Core.Path.{◌∙◌, ◌≡◌, ap, refl, sym}
-use Prim.Native.Nat.{◌-◌, ◌≤◌, ℕ}
-use borrow.Author.Rules.{rules}
+use mathlib.Core.Path.{◌≡◌}
+use Prim.Native.Nat.{◌-◌, ◌≤◌}
 use lib.ListN.{drop}
-use Rattle.rules.specs.Events.{kind}
-use Rattle.rules.specs.Messages.{of_kind}
-use Rattle.rules.specs.PairSlots.{used_message, zero_message}
-use Rattle.rules.specs.declared.EpochNo.{EpochNo}
-use Rattle.rules.specs.declared.Message.{Message}
-use Rattle.slots.proofs.Entries.{entries-end, entries_go, entries-stop}
-use Rattle.slots.proofs.Tests.{is_free, is_used}
+use Rattle.rules.specs.PairSlots.{used_message}
 use Rattle.slots.specs.Slots.{entries}
 use Rattle.inbox.specs.Words.{word_of}
 use Rattle.inbox.proofs.first_word.Given as goal

@@ -1,13 +1,10 @@
-use mathlib.Core.Path.{◌∙◌, ◌≡◌, ap, refl, sym}
-use Prim.Native.Nat.{◌-◌, ◌≤◌}
+use mathlib.Core.Path.{◌∙◌, ap, sym}
 use borrow.Author.Rules.{rules}
-use lib.ListN.{drop}
 use Rattle.rules.specs.Messages.{has_end, is_end}
 use Rattle.rules.specs.PairSlots.{used_message, zero_message}
 use Rattle.slots.proofs.Entries.{entries-end, entries_go, entries-stop}
 use Rattle.slots.proofs.Lists.{any_here, any-later, any-nil}
 use Rattle.slots.proofs.Tests.{is_free, is_used}
-use Rattle.slots.specs.Slots.{entries}
 use Rattle.inbox.proofs.has_end.Goals as goal
 
 pub returns-then-x-eq0 : goal.returns-then-x-eq0

@@ -1,12 +1,8 @@
-use mathlib.Core.Path.{◌∙◌, ◌≡◌, ap, refl, sym}
+use mathlib.Core.Path.{◌≡◌}
 use Prim.Native.Nat.{◌-◌, ◌≤◌}
-use borrow.Author.Rules.{rules}
 use lib.ListN.{drop}
-use Rattle.rules.specs.Messages.{has_end, is_end}
-use Rattle.rules.specs.PairSlots.{used_message, zero_message}
-use Rattle.slots.proofs.Entries.{entries-end, entries_go, entries-stop}
-use Rattle.slots.proofs.Lists.{any_here, any-later, any-nil}
-use Rattle.slots.proofs.Tests.{is_free, is_used}
+use Rattle.rules.specs.Messages.{has_end}
+use Rattle.rules.specs.PairSlots.{used_message}
 use Rattle.slots.specs.Slots.{entries}
 use Rattle.inbox.proofs.has_end.Given as goal
 

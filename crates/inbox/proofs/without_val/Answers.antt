@@ -2,18 +2,15 @@
 use mathlib.Core.Bool.{Bool, ◌&&◌, false, false≢true, not, true}
 use mathlib.Core.List.{List, [], ◌∷◌}
 use mathlib.Core.Path.{◌∙◌, ◌≡◌, ap, refl}
-use Prim.Native.Nat.{◌-◌, ◌≤◌}
 use borrow.Author.Rules.{rules}
-use lib.ListN.{drop}
 use Rattle.rules.specs.Messages.{drop_val, of_kind}
 use Rattle.rules.specs.PairSlots.{used_message, zero_message}
 use Rattle.rules.specs.declared.EpochNo.{EpochNo}
 use Rattle.rules.specs.declared.Message.{Message}
 use Rattle.slots.proofs.Entries.{entries-end, entries_go, entries-stop}
-use Rattle.slots.proofs.Filling.{Filling, filling_end, filling_from, filling_more, filling_skip}
+use Rattle.slots.proofs.Filling.{filling_end, filling_from, filling_more, filling_skip}
 use Rattle.slots.proofs.Lists.{without_here, without-later, without-nil}
 use Rattle.slots.proofs.Tests.{is_free, is_used}
-use Rattle.slots.specs.Slots.{entries, pick}
 use Rattle.inbox.proofs.without_val.Invariants.{rest}
 use Rattle.inbox.proofs.without_val.Goals as goal
 

@@ -1,18 +1,13 @@
 -- Once the Val is found all that is left is kept; before that, all but the first Val.
-use mathlib.Core.Bool.{Bool, ◌&&◌, false, false≢true, not, true}
-use mathlib.Core.List.{List, [], ◌∷◌}
-use mathlib.Core.Path.{◌∙◌, ◌≡◌, ap, refl}
+use mathlib.Core.Bool.{Bool}
+use mathlib.Core.List.{List}
 use Prim.Native.Nat.{◌-◌, ◌≤◌}
-use borrow.Author.Rules.{rules}
 use lib.ListN.{drop}
-use Rattle.rules.specs.Messages.{drop_val, of_kind}
+use Rattle.rules.specs.Messages.{drop_val}
 use Rattle.rules.specs.PairSlots.{used_message, zero_message}
 use Rattle.rules.specs.declared.EpochNo.{EpochNo}
 use Rattle.rules.specs.declared.Message.{Message}
-use Rattle.slots.proofs.Entries.{entries-end, entries_go, entries-stop}
-use Rattle.slots.proofs.Filling.{Filling, filling_end, filling_from, filling_more, filling_skip}
-use Rattle.slots.proofs.Lists.{without_here, without-later, without-nil}
-use Rattle.slots.proofs.Tests.{is_free, is_used}
+use Rattle.slots.proofs.Filling.{Filling}
 use Rattle.slots.specs.Slots.{entries, pick}
 use Rattle.inbox.proofs.without_val.Given as goal
 

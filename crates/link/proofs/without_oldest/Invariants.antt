@@ -1,13 +1,8 @@
-use mathlib.Core.Path.{◌∙◌, ap, sym}
 use Prim.Native.Nat.{◌-◌, ◌≤◌}
-use borrow.Author.Rules.{rules}
 use lib.ListN.{drop}
 use Rattle.rules.specs.PairSlots.{used_message, zero_message}
-use Rattle.slots.proofs.Entries.{entries-end, entries_go, entries-stop}
-use Rattle.slots.proofs.Filling.{Filling, filling_as, filling_end, filling_from, filling_more, filling_skip}
-use Rattle.slots.proofs.Padded.{padded-nil}
-use Rattle.slots.proofs.Tests.{is_free, is_used}
-use Rattle.slots.specs.Slots.{entries, padded}
+use Rattle.slots.proofs.Filling.{Filling}
+use Rattle.slots.specs.Slots.{entries}
 use Rattle.link.proofs.without_oldest.Given as goal
 
 abbrev pub invariant-loop-i : goal.invariant-loop-i

@@ -1,4 +1,3 @@
-use borrow.Author.Rules.{rules}
 use Rattle.rules.specs.PairSlots.{laid, laid_card, zero_message}
 use Rattle.slots.proofs.Padded.{padded-nil}
 use Rattle.outcomes.proofs.blank.Goals as goal

@@ -1,4 +1,3 @@
-use borrow.Author.Rules.{rules}
 use Rattle.rules.specs.PairSlots.{zero_pair}
 use Rattle.outcomes.proofs.nothing.Goals as goal
 

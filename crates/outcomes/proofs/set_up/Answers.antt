@@ -1,4 +1,3 @@
-use borrow.Author.Rules.{rules}
 use native.Mathlib.Omega.{arith}
 use Rattle.outcomes.proofs.Made.{few-instructions, made-bad, made-good}
 use Rattle.outcomes.proofs.set_up.Goals as goal

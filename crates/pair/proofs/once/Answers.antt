@@ -1,13 +1,10 @@
-use mathlib.Core.Path.{◌∙◌, ◌≡◌, ap, refl, sym}
-use Prim.Native.Nat.{◌-◌, ◌≤◌}
+use mathlib.Core.Path.{◌∙◌, ap, sym}
 use borrow.Author.Rules.{rules}
-use lib.ListN.{drop}
 use Rattle.rules.specs.Guest.{ops_of}
 use Rattle.rules.specs.GuestSlots.{used_interrupt, zero_interrupt}
 use Rattle.rules.specs.Sound.{once}
 use Rattle.slots.proofs.Entries.{entries-end, entries_go, entries-stop}
 use Rattle.slots.proofs.Tests.{is_free, is_used}
-use Rattle.slots.specs.Slots.{entries}
 use Rattle.pair.proofs.once.Goals as goal
 
 pub returns-then-x-eq0 : goal.returns-then-x-eq0

@@ -1,12 +1,9 @@
-use mathlib.Core.Path.{◌∙◌, ◌≡◌, ap, refl, sym}
+use mathlib.Core.Path.{◌≡◌}
 use Prim.Native.Nat.{◌-◌, ◌≤◌}
-use borrow.Author.Rules.{rules}
 use lib.ListN.{drop}
 use Rattle.rules.specs.Guest.{ops_of}
-use Rattle.rules.specs.GuestSlots.{used_interrupt, zero_interrupt}
+use Rattle.rules.specs.GuestSlots.{used_interrupt}
 use Rattle.rules.specs.Sound.{once}
-use Rattle.slots.proofs.Entries.{entries-end, entries_go, entries-stop}
-use Rattle.slots.proofs.Tests.{is_free, is_used}
 use Rattle.slots.specs.Slots.{entries}
 use Rattle.pair.proofs.once.Given as goal
 

@@ -1,6 +1,5 @@
 use mathlib.Core.Bool.{Bool, ◌&&◌, true}
 use mathlib.Core.Path.{◌≡◌}
-use borrow.Author.Rules.{rules}
 use lib.Dec.{leb}
 use Rattle.rules.specs.PairSlots.{laid, laid_card, seen, seen_card, sound_pair, used_message, zero_message}
 use Rattle.rules.specs.declared.Pair.{Pair}

@@ -1,8 +1,6 @@
 use mathlib.Core.Bool.{Bool, ◌&&◌, true}
 use mathlib.Core.Path.{◌≡◌}
 use Prim.Native.Nat.{ℕ}
-use borrow.Author.Rules.{rules}
-use Rattle.rules.specs.Decode.{two}
 use Rattle.rules.specs.GuestSlots.{laid_guest, seen_guest, used_interrupt, zero_interrupt}
 use Rattle.rules.specs.PairSlots.{laid_card, seen_card, tight_card}
 use Rattle.rules.specs.declared.Card.{Card}

@@ -1,15 +1,10 @@
 use mathlib.Core.Bool.{false}
-use mathlib.Core.Path.{◌∙◌, ◌≡◌, refl, sym}
+use mathlib.Core.Path.{◌≡◌}
 use Prim.Native.Nat.{◌-◌, ◌≤◌}
-use borrow.Author.Rules.{rules}
-use borrow.Author.Tests.{not-false, not-true}
 use lib.ListN.{drop}
-use Rattle.rules.proofs.PairSlots.{zero_message_lem}
-use Rattle.rules.specs.PairSlots.{is_zero_message, used_message, zero_message}
+use Rattle.rules.specs.PairSlots.{is_zero_message, used_message}
 use Rattle.rules.specs.Sound.{sound_message}
-use Rattle.slots.proofs.Filling.{in_order, order_broken, order_dirty, order-end, order-free, order_used, ordered}
-use Rattle.slots.proofs.Tests.{is_free, is_used}
-use Rattle.pair.proofs.Slots.{message_not_zero}
+use Rattle.slots.proofs.Filling.{in_order}
 use Rattle.pair.proofs.sound_link.Given as goal
 
 abbrev pub invariant-loop-i : goal.invariant-loop-i

@@ -1,4 +1,3 @@
-use borrow.Author.Rules.{rules}
 use borrow.Author.Tests.{eq-eqb, ne_eqb}
 use Rattle.rules.specs.Messages.{interrupt_of}
 use Rattle.rules.specs.Sound.{sound_message}

@@ -1,4 +1,3 @@
-use borrow.Author.Rules.{rules}
 use Rattle.rules.specs.GuestSlots.{seen_guest}
 use Rattle.rules.specs.Instruction.{complete}
 use Rattle.rules.specs.PairSlots.{seen, seen_card}

@@ -1,8 +1,5 @@
-use mathlib.Core.Path.{◌∙◌, ◌≡◌, ap, refl, sym}
-use Prim.Native.Nat.{◌-◌, ◌≤◌}
+use mathlib.Core.Path.{◌∙◌, ap, sym}
 use borrow.Author.Rules.{rules}
-use borrow.Author.Tests.{not-false, not-true}
-use lib.ListN.{drop}
 use Rattle.rules.specs.Guest.{ops_of}
 use Rattle.rules.specs.GuestSlots.{used_interrupt, used_op, zero_interrupt}
 use Rattle.slots.proofs.Entries.{entries-end, entries_go, entries-stop}

@@ -1,13 +1,8 @@
-use mathlib.Core.Path.{◌∙◌, ◌≡◌, ap, refl, sym}
+use mathlib.Core.Path.{◌≡◌}
 use Prim.Native.Nat.{◌-◌, ◌≤◌}
-use borrow.Author.Rules.{rules}
-use borrow.Author.Tests.{not-false, not-true}
 use lib.ListN.{drop}
 use Rattle.rules.specs.Guest.{ops_of}
-use Rattle.rules.specs.GuestSlots.{used_interrupt, used_op, zero_interrupt}
-use Rattle.slots.proofs.Entries.{entries-end, entries_go, entries-stop}
-use Rattle.slots.proofs.Lists.{every_in, every-nil, every_out}
-use Rattle.slots.proofs.Tests.{is_free, is_used}
+use Rattle.rules.specs.GuestSlots.{used_interrupt, used_op}
 use Rattle.slots.specs.Slots.{entries}
 use Rattle.pair.specs.Sound.{all_tabled}
 use Rattle.pair.proofs.tabled.Given as goal

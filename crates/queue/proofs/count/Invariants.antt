@@ -1,11 +1,7 @@
-use mathlib.Core.Path.{◌≡◌, ap}
+use mathlib.Core.Path.{◌≡◌}
 use Prim.Native.Nat.{◌+◌, ◌-◌, ◌≤◌}
-use borrow.Author.Rules.{rules}
 use lib.ListN.{drop, length}
-use native.Mathlib.Omega.{arith}
-use Rattle.rules.specs.GuestSlots.{used_interrupt, zero_interrupt}
-use Rattle.slots.proofs.Entries.{entries-end, entries_go, entries-stop}
-use Rattle.slots.proofs.Tests.{is_free, is_used}
+use Rattle.rules.specs.GuestSlots.{used_interrupt}
 use Rattle.slots.specs.Slots.{entries}
 use Rattle.queue.proofs.count.Given as goal
 

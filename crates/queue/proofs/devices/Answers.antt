@@ -1,4 +1,3 @@
-use borrow.Author.Rules.{rules}
 use native.Mathlib.Omega.{arith}
 use Rattle.rules.specs.GuestSlots.{used_interrupt}
 use Rattle.rules.specs.Instruction.{is_timer}

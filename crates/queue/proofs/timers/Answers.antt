@@ -1,15 +1,14 @@
-use mathlib.Core.Path.{◌∙◌, ◌≡◌, ap}
-use Prim.Native.Nat.{◌+◌, ◌-◌, ◌≤◌}
+use mathlib.Core.Path.{◌∙◌, ap}
 use borrow.Author.Rules.{rules}
 use borrow.Author.Tests.{eq-eqb, ne_eqb}
-use lib.ListN.{drop, length}
+use lib.ListN.{length}
 use native.Mathlib.Omega.{arith}
 use Rattle.rules.specs.GuestSlots.{used_interrupt, zero_interrupt}
 use Rattle.rules.specs.Instruction.{is_timer}
 use Rattle.slots.proofs.Entries.{entries-end, entries_go, entries-stop}
 use Rattle.slots.proofs.Lists.{keep_in, keep-nil, keep_out}
 use Rattle.slots.proofs.Tests.{is_free, is_used}
-use Rattle.slots.specs.Slots.{count, entries, keep}
+use Rattle.slots.specs.Slots.{count, keep}
 use Rattle.queue.proofs.timers.Goals as goal
 
 pub returns-then-status-eq0-clause-is : goal.returns-then-status-eq0-clause-is

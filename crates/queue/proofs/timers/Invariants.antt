@@ -1,15 +1,9 @@
-use mathlib.Core.Path.{◌∙◌, ◌≡◌, ap}
+use mathlib.Core.Path.{◌≡◌}
 use Prim.Native.Nat.{◌+◌, ◌-◌, ◌≤◌}
-use borrow.Author.Rules.{rules}
-use borrow.Author.Tests.{eq-eqb, ne_eqb}
-use lib.ListN.{drop, length}
-use native.Mathlib.Omega.{arith}
-use Rattle.rules.specs.GuestSlots.{used_interrupt, zero_interrupt}
+use lib.ListN.{drop}
+use Rattle.rules.specs.GuestSlots.{used_interrupt}
 use Rattle.rules.specs.Instruction.{is_timer}
-use Rattle.slots.proofs.Entries.{entries-end, entries_go, entries-stop}
-use Rattle.slots.proofs.Lists.{keep_in, keep-nil, keep_out}
-use Rattle.slots.proofs.Tests.{is_free, is_used}
-use Rattle.slots.specs.Slots.{count, entries, keep}
+use Rattle.slots.specs.Slots.{count, entries}
 use Rattle.queue.proofs.timers.Given as goal
 
 abbrev pub invariant-loop-i : goal.invariant-loop-i

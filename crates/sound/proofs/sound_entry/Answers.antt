@@ -1,4 +1,3 @@
-use borrow.Author.Rules.{rules}
 use borrow.Author.Tests.{eq-eqb, ne_eqb}
 use Rattle.rules.specs.GuestSound.{sound_entry}
 use Rattle.sound.proofs.sound_entry.Goals as goal

@@ -1,14 +1,10 @@
 use mathlib.Core.Bool.{false}
-use mathlib.Core.Path.{◌∙◌, ◌≡◌, refl, sym}
+use mathlib.Core.Path.{◌≡◌}
 use Prim.Native.Nat.{◌-◌, ◌≤◌}
-use borrow.Author.Rules.{rules}
-use borrow.Author.Tests.{not-false, not-true}
 use lib.ListN.{drop}
-use Rattle.rules.specs.GuestSlots.{is_zero_interrupt, used_interrupt, zero_interrupt}
+use Rattle.rules.specs.GuestSlots.{is_zero_interrupt, used_interrupt}
 use Rattle.rules.specs.GuestSound.{sound_entry}
-use Rattle.slots.proofs.Filling.{in_order_lem, in_order, order_broken, order_dirty, order-end, order-free, order_used}
-use Rattle.slots.proofs.Tests.{is_free, is_used}
-use Rattle.sound.proofs.Slots.{used_not_zero}
+use Rattle.slots.proofs.Filling.{in_order}
 use Rattle.sound.proofs.sound_queue.Given as goal
 
 abbrev pub invariant-loop-i : goal.invariant-loop-i

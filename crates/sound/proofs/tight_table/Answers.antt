@@ -1,11 +1,8 @@
-use mathlib.Core.Path.{◌∙◌, ◌≡◌, ap, sym}
-use Prim.Native.Nat.{◌-◌, ◌≤◌}
+use mathlib.Core.Path.{◌∙◌, sym}
 use borrow.Author.Rules.{rules}
 use borrow.Author.Tests.{eq-eqb, ne_eqb}
-use lib.ListN.{drop}
-use Rattle.rules.specs.GuestSlots.{is_zero_op, used_op, zero_op}
+use Rattle.rules.specs.GuestSlots.{is_zero_op, zero_op}
 use Rattle.slots.proofs.Entries.{every-end, every_go, every-stop}
-use Rattle.slots.specs.Slots.{every, tight}
 use Rattle.sound.proofs.tight_table.Goals as goal
 
 pub returns-then-xs-i-ne0 : goal.returns-then-xs-i-ne0

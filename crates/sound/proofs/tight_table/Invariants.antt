@@ -1,10 +1,7 @@
-use mathlib.Core.Path.{◌∙◌, ◌≡◌, ap, sym}
+use mathlib.Core.Path.{◌≡◌}
 use Prim.Native.Nat.{◌-◌, ◌≤◌}
-use borrow.Author.Rules.{rules}
-use borrow.Author.Tests.{eq-eqb, ne_eqb}
 use lib.ListN.{drop}
-use Rattle.rules.specs.GuestSlots.{is_zero_op, used_op, zero_op}
-use Rattle.slots.proofs.Entries.{every-end, every_go, every-stop}
+use Rattle.rules.specs.GuestSlots.{is_zero_op, used_op}
 use Rattle.slots.specs.Slots.{every, tight}
 use Rattle.sound.proofs.tight_table.Given as goal
 

@@ -1,15 +1,8 @@
-use mathlib.Core.Bool.{not}
-use mathlib.Core.Path.{◌∙◌, ap}
 use Prim.Native.Nat.{◌-◌, ◌≤◌}
-use borrow.Author.Rules.{rules}
-use borrow.Author.Tests.{eq-eqb, ne_eqb}
 use lib.ListN.{drop}
 use Rattle.rules.specs.Boundary.{other_op}
 use Rattle.rules.specs.GuestSlots.{used_op, zero_op}
-use Rattle.slots.proofs.Entries.{entries-end, entries_go, entries-stop}
-use Rattle.slots.proofs.Filling.{Filling, filling_end, filling_more, filling_skip, filling_start}
-use Rattle.slots.proofs.Lists.{keep_in, keep-nil, keep_out}
-use Rattle.slots.proofs.Tests.{is_free, is_used}
+use Rattle.slots.proofs.Filling.{Filling}
 use Rattle.slots.specs.Slots.{entries, keep}
 use Rattle.table.proofs.strike.Given as goal
 

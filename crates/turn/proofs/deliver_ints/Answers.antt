@@ -1,12 +1,10 @@
-use mathlib.Core.Path.{◌∙◌, ◌≡◌, ap, refl, sym}
-use Prim.Native.Nat.{◌-◌, ◌≤◌}
+use mathlib.Core.Path.{◌∙◌, ap, sym}
 use borrow.Author.Rules.{rules}
-use lib.ListN.{drop}
 use Rattle.rules.specs.PairSlots.{used_message, zero_message}
 use Rattle.slots.proofs.Entries.{entries-end, entries_go, entries-stop}
 use Rattle.slots.proofs.Lists.{folded-cons, folded-nil}
 use Rattle.slots.proofs.Tests.{is_free, is_used}
-use Rattle.slots.specs.Slots.{entries, folded}
+use Rattle.slots.specs.Slots.{folded}
 use Rattle.turn.proofs.Heard.{heard-ints}
 use Rattle.turn.specs.InSlots.{hear_in}
 use Rattle.turn.proofs.deliver_ints.Goals as goal

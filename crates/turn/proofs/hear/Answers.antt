@@ -1,4 +1,3 @@
-use borrow.Author.Rules.{rules}
 use Rattle.turn.specs.InSlots.{hear_in}
 use Rattle.turn.proofs.hear.Goals as goal
 

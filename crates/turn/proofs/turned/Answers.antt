@@ -1,4 +1,3 @@
-use borrow.Author.Rules.{rules}
 use borrow.Author.Tests.{eq-eqb, ne_eqb}
 use Rattle.boundary.specs.InSlots.{boundary_in}
 use Rattle.inbox.proofs.Laws.{word-tme}

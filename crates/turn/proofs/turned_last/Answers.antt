@@ -1,4 +1,3 @@
-use borrow.Author.Rules.{rules}
 use Rattle.inbox.proofs.Laws.{word-tme}
 use Rattle.turn.specs.InSlots.{turned_last_in}
 use Rattle.turn.proofs.turned_last.Goals as goal
