@@ -1,0 +1,12 @@
+use mathlib.Core.Path.{◌∙◌}
+use Prim.Native.Nat.{◌-◌}
+use borrow.Author.Rules.{rules}
+use Rattle.text.proofs.Spelled.{spelled-length}
+use Rattle.desk.proofs.Going.{Going, going_ends, going_more, going_start, going_stops}
+use Rattle.desk.proofs.bench.take.Given as goal
+
+abbrev pub invariant-loop-n : goal.invariant-loop-n
+invariant-loop-n l = Going l.file l.initial.pair l.pair l.n l.events l.initial.text l.text l.at
+
+abbrev pub decreases-loop-n : goal.decreases-loop-n
+decreases-loop-n l = l.events - l.n
