@@ -1,5 +1,6 @@
 // The lines that answer the probe's requests, as docs/PROBE.md has them: each is spelled at the front of a lent text.
 #![tactic(auto)]
+
 ghost use Rattle.requests.specs.Answers.{Answers, Spells, answered};
 
 mod fields;

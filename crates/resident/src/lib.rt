@@ -1,5 +1,6 @@
 // The resident monitor: the pair stays in its own store.
 #![tactic(auto)]
+
 ghost use Rattle.resident.specs.Applies.{Applies};
 
 use rules::{Answer, Pair, Shown};
