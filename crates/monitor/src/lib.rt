@@ -1,5 +1,6 @@
 // One event on a pair: the tests in front, and then the event's own function.
 #![tactic(auto)]
+
 ghost use Rattle.std.specs.Prelude.{◌≡◌, false};
 ghost use Rattle.rules.specs.Events.{malformed};
 ghost use Rattle.rules.specs.PairSlots.{apply, outcome};

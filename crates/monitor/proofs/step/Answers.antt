@@ -1,5 +1,4 @@
 use mathlib.Core.Path.{◌∙◌, sym}
-use borrow.Author.Rules.{rules}
 use Rattle.monitor.proofs.Front.{stepped_ill, stepped-read}
 use Rattle.monitor.proofs.step.Goals as goal
 

@@ -1,6 +1,5 @@
 use mathlib.Core.Path.{◌∙◌, sym}
-use borrow.Author.Rules.{rules}
-use borrow.Author.Tests.{eq-eqb, ne_eqb, not-false, not-true}
+use borrow.Author.Tests.{eq-eqb, ne_eqb}
 use Rattle.monitor.proofs.Front.{front_length, front-malformed, front_passed, front-unsound, tidy}
 use Rattle.monitor.proofs.take.Goals as goal
 
