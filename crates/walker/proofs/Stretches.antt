@@ -7,6 +7,11 @@ use native.Mathlib.Omega.{arith}
 use borrow.Author.Tests.{lt-ltb}
 use lib.Dec.{T as Holds, ltb}
 use Rattle.slots.specs.Slots.{pick}
+use Rattle.reader.specs.Events.{event_at, place_after}
+use Rattle.rules.specs.Bytes.{stepped}
+use Rattle.rules.specs.declared.Answer.{Answer}
+use Rattle.rules.specs.declared.Pair.{Pair}
+use Rattle.rules.specs.declared.Shown.{Shown}
 use Rattle.walker.specs.declared.Stretch.{Stretch}
 use Rattle.walker.specs.Stretches.{quiet, one_more, until_shown}
 
@@ -41,3 +46,10 @@ module _ (file program : List ℕ) (z : Stretch) where
   unfolding until_shown
   goes_not zero h = refl
   goes_not (suc left) h = not_picked b _ _ (rw (lt-ltb 0 (suc left) (omega arith)) at h)
+
+  -- an event more, by what the reader and the pair then are
+  pub turned : (left at : ℕ) (event : List ℕ) (p : Pair) (a : Answer) (s : Shown) → Holds (on z left)
+      → event ≡ event_at file z.at → at ≡ place_after file z.at
+      → a ≡ (stepped program z.pair event).answer → s ≡ (stepped program z.pair event).shown → p ≡ (stepped program z.pair event).pair
+      → until_shown file program z left ≡ until_shown file program (record { at = at; pair = p; last = record { answer = a; shown = s } }) (left - 1)
+  turned left at event p a s h e n x y w = rw (n, x, y, w, e) (goes_on left h).1
