@@ -1,0 +1,7 @@
+use mathlib.Core.Path.{refl}
+use borrow.Author.Rules.{rules}
+use Rattle.desk.proofs.Lines.{stands}
+use Rattle.walker.proofs.main.Goals as goal
+
+pub write-requires : goal.write-requires
+write-requires c = (stands c.run-m.ensures refl).0
