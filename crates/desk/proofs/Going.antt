@@ -20,7 +20,7 @@ use Rattle.runfile.specs.RunFile.{is_run_file, read_answer, read_events, read_li
 use Rattle.text.proofs.Spelled.{◌then◌, spelled-length}
 use Rattle.text.specs.Lines.{entry_length}
 use Rattle.text.specs.Spelled.{Spelled}
-use Rattle.desk.specs.Bench.{Prints, Run, bench_run, bench_start, stopped, goes_on, lines, most_events, printed, shown_line, shows, takes}
+use Rattle.desk.specs.Bench.{Prints, bench_run, bench_start, stopped, goes_on, lines, most_events, printed, shown_line, shows, takes}
 use Rattle.desk.proofs.Lines.{ends_short, shown-first}
 
 -- "events 0 to 32,768 in eights", of any file

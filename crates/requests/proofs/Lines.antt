@@ -1,6 +1,6 @@
 -- The lines, by what was answered.
 use mathlib.Core.List.{List, [], ◌++◌}
-use mathlib.Core.Path.{◌≡◌, refl}
+use mathlib.Core.Path.{◌≡◌}
 use Prim.Native.Nat.{ℕ}
 use Rattle.forms.specs.Lent.{where_taken}
 use Rattle.image.specs.Stores.{loaded, save_answer, save_leaves}

@@ -1,6 +1,6 @@
 -- The lines that answer requests, as docs/PROBE.md has them: "ANSWER is the number of 01, 0 or a refusal. HEX is two lower-case digits a
 -- byte, and a single `-` for no bytes. What stands in brackets is there only for the answer 0."
-use Rattle.std.specs.Prelude.{List, [], ◌∷◌, ◌++◌, ℕ, length}
+use Rattle.std.specs.Prelude.{List, [], ◌∷◌, ◌++◌, ℕ}
 use Rattle.forms.specs.Lent.{where_taken}
 use Rattle.image.specs.Stores.{loaded, retire_answer, retire_leaves, save_answer, save_leaves, zeros}
 use Rattle.layout.specs.Image.{image_length}

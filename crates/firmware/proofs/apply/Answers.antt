@@ -1,6 +1,4 @@
 use mathlib.Core.Path.{ap, sym, ◌∙◌}
-use borrow.Author.Tests.{not-false, not-true}
-use borrow.Author.Rules.{rules}
 use Rattle.rules.specs.PairSlots.{outcome}
 use Rattle.firmware.proofs.Outcomes.{front-fine, front-form, front_length, front_passed}
 use Rattle.firmware.proofs.apply.Goals as goal

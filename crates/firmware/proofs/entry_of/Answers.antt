@@ -1,4 +1,3 @@
-use borrow.Author.Rules.{rules}
 use Rattle.firmware.specs.Firmware.{entry_of}
 use Rattle.firmware.proofs.entry_of.Goals as goal
 

@@ -1,5 +1,4 @@
 use mathlib.Core.Path.{ap, sym, ◌∙◌}
-use borrow.Author.Rules.{rules}
 use Rattle.firmware.specs.Firmware.{ill_formed}
 use Rattle.firmware.proofs.ill_formed.Goals as goal
 

@@ -1,4 +1,3 @@
-use borrow.Author.Rules.{rules}
 use Rattle.firmware.proofs.Outcomes.{save-refused, save-taken}
 use Rattle.firmware.proofs.pair_save.Goals as goal
 

@@ -1,4 +1,3 @@
-use borrow.Author.Rules.{rules}
 use Rattle.firmware.proofs.Outcomes.{step-refused, step-taken}
 use Rattle.firmware.proofs.pair_step.Goals as goal
 

@@ -1,4 +1,3 @@
-use borrow.Author.Rules.{rules}
 use Rattle.requests.proofs.Promises.{is_cut, is_whole}
 use Rattle.requests.proofs.answer.Goals as goal
 

@@ -1,6 +1,5 @@
 use mathlib.Core.Path.{refl}
 use borrow.Author.Tests.{ne_eqb}
-use borrow.Author.Rules.{rules}
 use Rattle.requests.specs.Answers.{answered}
 use Rattle.requests.proofs.spell.Goals as goal
 

@@ -1,5 +1,4 @@
 use mathlib.Core.Path.{refl}
-use borrow.Author.Rules.{rules}
 use Rattle.desk.proofs.Lines.{stands}
 use Rattle.walker.proofs.main.Goals as goal
 

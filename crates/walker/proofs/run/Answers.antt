@@ -1,5 +1,4 @@
 use mathlib.Core.Path.{sym, ◌∙◌}
-use borrow.Author.Rules.{rules}
 use Rattle.desk.proofs.Going.{at_once, opens, opens_not}
 use Rattle.walker.proofs.run.Goals as goal
 

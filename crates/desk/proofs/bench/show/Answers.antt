@@ -1,6 +1,4 @@
-use native.Mathlib.Omega.{arith}
 use borrow.Author.Rules.{rules}
-use Rattle.text.proofs.Spelled.{blank}
 use Rattle.desk.specs.Bench.{line_of, shown_line}
 use Rattle.desk.proofs.bench.show.Goals as goal
 

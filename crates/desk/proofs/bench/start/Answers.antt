@@ -1,4 +1,3 @@
-use borrow.Author.Rules.{rules}
 use Rattle.desk.proofs.Going.{at_once, starts, starts_not}
 use Rattle.desk.proofs.bench.start.Goals as goal
 

@@ -1,4 +1,3 @@
-use borrow.Author.Rules.{rules}
 use Rattle.desk.proofs.Lines.{ends}
 use Rattle.desk.proofs.bench.stop.Goals as goal
 

@@ -1,8 +1,5 @@
-use mathlib.Core.Path.{◌∙◌}
-use Prim.Native.Nat.{◌-◌}
 use borrow.Author.Rules.{rules}
-use Rattle.text.proofs.Spelled.{spelled-length}
-use Rattle.desk.proofs.Going.{Going, going_ends, going_more, going_start, going_stops}
+use Rattle.desk.proofs.Going.{going_ends, going_more, going_stops}
 use Rattle.desk.proofs.bench.take.Goals as goal
 
 pub returns-in-Refused : goal.returns-in-Refused

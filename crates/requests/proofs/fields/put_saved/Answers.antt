@@ -1,4 +1,3 @@
-use borrow.Author.Rules.{rules}
 use Rattle.image.specs.Stores.{zeros}
 use Rattle.requests.specs.Lines.{saved_field}
 use Rattle.requests.proofs.fields.put_saved.Goals as goal

@@ -1,4 +1,3 @@
-use borrow.Author.Rules.{rules}
 use Rattle.text.proofs.Spelled.{◌then◌}
 use Rattle.requests.specs.Lines.{shown_field}
 use Rattle.requests.proofs.fields.put_shown.Goals as goal

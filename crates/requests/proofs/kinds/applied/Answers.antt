@@ -1,4 +1,3 @@
-use borrow.Author.Rules.{rules}
 use Rattle.text.proofs.Spelled.{◌then◌}
 use Rattle.requests.specs.Lines.{applied_line}
 use Rattle.requests.proofs.kinds.applied.Goals as goal

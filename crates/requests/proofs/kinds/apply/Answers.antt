@@ -1,4 +1,3 @@
-use borrow.Author.Rules.{rules}
 use Rattle.requests.proofs.Lines.{applies, applies_not}
 use Rattle.requests.proofs.kinds.apply.Goals as goal
 

@@ -1,4 +1,3 @@
-use borrow.Author.Rules.{rules}
 use Rattle.requests.specs.Lines.{bad_line}
 use Rattle.requests.proofs.kinds.bad.Goals as goal
 

@@ -1,4 +1,3 @@
-use borrow.Author.Rules.{rules}
 use Rattle.text.proofs.Spelled.{◌then◌}
 use Rattle.requests.specs.Lines.{bare_line}
 use Rattle.requests.proofs.kinds.bare.Goals as goal

@@ -1,4 +1,3 @@
-use borrow.Author.Rules.{rules}
 use Rattle.text.proofs.Spelled.{◌then◌}
 use Rattle.requests.specs.Lines.{parts_fields}
 use Rattle.requests.proofs.kinds.put_parts.Goals as goal

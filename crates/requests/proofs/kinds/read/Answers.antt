@@ -1,4 +1,3 @@
-use borrow.Author.Rules.{rules}
 use Rattle.text.proofs.Spelled.{◌then◌, blank}
 use Rattle.requests.proofs.Lines.{reads, reads_not}
 use Rattle.requests.proofs.kinds.read.Goals as goal

@@ -1,4 +1,3 @@
-use borrow.Author.Rules.{rules}
 use Rattle.requests.specs.Lines.{retire_line}
 use Rattle.requests.proofs.kinds.retire.Goals as goal
 

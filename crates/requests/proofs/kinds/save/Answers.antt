@@ -1,5 +1,4 @@
 use mathlib.Core.Path.{sym, ◌∙◌}
-use borrow.Author.Rules.{rules}
 use Rattle.requests.proofs.Lines.{saved_into_lem, saved_not, saves, saves_not}
 use Rattle.requests.proofs.kinds.save.Goals as goal
 

@@ -1,4 +1,3 @@
-use borrow.Author.Rules.{rules}
 use Rattle.text.proofs.Spelled.{◌then◌}
 use Rattle.requests.specs.Lines.{bytes_line}
 use Rattle.requests.proofs.kinds.with_bytes.Goals as goal

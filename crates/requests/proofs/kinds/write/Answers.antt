@@ -1,4 +1,3 @@
-use borrow.Author.Rules.{rules}
 use Rattle.requests.specs.Lines.{write_line}
 use Rattle.requests.proofs.kinds.write.Goals as goal
 
