@@ -1,7 +1,7 @@
 // Walks a run file with the two functions that keep what they work on in the caller's store: `reader::next`, over a `&mut Reader`, and
 // `resident::apply`, over a `&mut Pair`. It prints what the bench prints: both are proved to print the same bytes.
 //
-// `walk` is the one function that calls them, and is proved by hand. The loop over it has plain values in its locals.
+// `walk` is the one function that calls them. The loop over it has plain values in its locals.
 #![tactic(auto)]
 
 ghost use Rattle.std.specs.Prelude.{◌&&◌, ◌≡◌, ltb};
