@@ -2,21 +2,9 @@
 // than any run file, and is refused like any other bad one.
 #![tactic(auto)]
 
-ghost use Rattle.std.specs.Prelude.{◌≡◌};
-ghost use Rattle.desk.specs.Bench.{printed};
-
 use desk::bench;
+use desk::printing::{KEPT, write};
 use std::io;
-
-// What comes is kept up to this length: the longest run file has 36,892 bytes.
-const KEPT: usize = 65536;
-
-// Writes what is printed of a run file, whole and alone: `main` has to show that the text is that.
-fn write(rt: &impl Print, file: &[u8], text: &[u8]) -> io::Result<()>
-    requires { text.now ≡ printed file.now }
-{
-    rt.write_all(text)
-}
 
 fn main(rt: HostRuntime) -> io::Result<()> {
     let mut buf = [0u8; KEPT];

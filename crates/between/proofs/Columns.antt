@@ -8,7 +8,6 @@ use lib.Dec.{leb}
 use lib.ListN.{drop, length}
 use native.Mathlib.Numerals.{add-one}
 use native.Mathlib.Omega.{arith}
-use Rattle.link.specs.Oldest.{oldest}
 use Rattle.tidy.proofs.Goes.{b-again, does-refused, does-taken, inbox_more, p-again}
 use Rattle.outcomes.specs.Made.{done}
 use Rattle.tidy.specs.Tidy.{Tidy, does}
@@ -20,8 +19,8 @@ use Rattle.rules.specs.declared.Event.TheVariants.{Ack, Detect, Fail, Link}
 use Rattle.rules.specs.declared.Message.{Message}
 use Rattle.rules.specs.declared.Pair.{Pair}
 use Rattle.rules.specs.declared.Refusal.TheVariants.{Dead, InboxFull, MustWait, OutOfTurn}
-use Rattle.rules.specs.declared.Shown.TheVariants.{Nothing}
 use Rattle.slots.specs.Slots.{entries, padded, pushed}
+use Rattle.std.specs.Prelude.{None, get_or}
 
 -- the code's one less, and the rule's
 one_less : (n : ℕ) → n - 1 ≡ pred n
@@ -49,17 +48,20 @@ module _ (s : Pair) where
   -- a message in flight: the inbox decides
   module _ (n : length flying ≡ 0 → ⊥) where
     -- the pair that is left, without its free slots; and in memory, with these slots on the link and in the inbox
+    abbrev oldest : List Message → Message
+    oldest ms = get_or ms 0 zero_message
+
     abbrev link_next : Pair
     link_next = received (seen s) (oldest flying) (drop 1 flying)
 
     abbrev link_laid : List Message → List Message → Pair
     link_laid ms ns = record { p = s.p; phase = s.phase; b = s.b; role = s.role; detected = s.detected; limit = s.limit; count = s.count; link = ms; acks = s.acks + 1; inbox = ns }
 
-    in_flight : handle (setup_of [] s) (seen s) Link ≡ refuse (leb 128 (length arrived)) InboxFull (taken link_next Nothing)
-    unfolding handle linked oldest seen
+    in_flight : handle (setup_of [] s) (seen s) Link ≡ refuse (leb 128 (length arrived)) InboxFull (taken link_next None)
+    unfolding handle linked seen
     in_flight = moves flying n
       where
-        moves : (ms : List Message) → (length ms ≡ 0 → ⊥) → linked (seen s) ms ≡ refuse (leb 128 (length arrived)) InboxFull (taken (received (seen s) (oldest ms) (drop 1 ms)) Nothing)
+        moves : (ms : List Message) → (length ms ≡ 0 → ⊥) → linked (seen s) ms ≡ refuse (leb 128 (length arrived)) InboxFull (taken (received (seen s) (oldest ms) (drop 1 ms)) None)
         moves [] h = absurd (h refl)
         moves (m ∷ ms) h = refl
 
@@ -67,17 +69,17 @@ module _ (s : Pair) where
     unfolding refuse
     link_full_lem f = does-refused [] s Link InboxFull (in_flight ∙ rw (le-leb 128 (length arrived) f))
 
-    pub link-taken : Tidy s → length arrived < 128 → (ms ns : List Message) → ms ≡ padded 58 zero_message (drop 1 flying) → ns ≡ pushed used_message s.inbox (oldest flying) → done (link_laid ms ns) Nothing ≡ does [] s Link
+    pub link_taken : Tidy s → length arrived < 128 → (ms ns : List Message) → ms ≡ padded 58 zero_message (drop 1 flying) → ns ≡ pushed used_message s.inbox (oldest flying) → done (link_laid ms ns) None ≡ does [] s Link
     unfolding refuse laid received seen
-    link-taken t f ms ns d e =
+    link_taken t f ms ns d e =
         let more = e ∙ inbox_more s t (oldest flying) f in
-        does-taken [] s Link link_next Nothing (link_laid ms ns) (in_flight ∙ rw (lt-leb 128 (length arrived) f))
+        does-taken [] s Link link_next None (link_laid ms ns) (in_flight ∙ rw (lt-leb 128 (length arrived) f))
         (λ i. record { p = p-again s t i; phase = s.phase; b = b-again s t i; role = s.role; detected = s.detected; limit = s.limit; count = s.count; link = d i; acks = add-one s.acks i; inbox = more i })
 
   -- "At most 58 messages are unacknowledged": one more acknowledgement fits
-  pub few-acks : Tidy s → s.acks ≤ 58
+  pub few_acks : Tidy s → s.acks ≤ 58
   unfolding seen
-  few-acks t =
+  few_acks t =
       let w = whole (seen s) t.whole in
       let k = at-most_58 (seen s) w.first.forty (buffered (seen s).p w.first.sixteen w.first_buffer) w.wires in
       omega arith
@@ -96,11 +98,11 @@ module _ (s : Pair) where
   abbrev ack_laid : ℕ → Pair
   ack_laid k = record { p = s.p; phase = s.phase; b = s.b; role = s.role; detected = s.detected; limit = s.limit; count = s.count; link = s.link; acks = k; inbox = s.inbox }
 
-  pub ack-taken : Tidy s → is_failed s.phase ≡ false → (s.acks ≡ 0 → ⊥) → done (ack_laid (s.acks - 1)) Nothing ≡ does [] s Ack
+  pub ack_taken : Tidy s → is_failed s.phase ≡ false → (s.acks ≡ 0 → ⊥) → done (ack_laid (s.acks - 1)) None ≡ does [] s Ack
   unfolding handle refuse seen laid acknowledged
-  ack-taken t f n =
-      ap (λ (k : ℕ). done (ack_laid k) Nothing) (one_less s.acks)
-      ∙ does-taken [] s Ack (acknowledged (seen s)) Nothing (acknowledged s) (rw (f, ne_eqb s.acks 0 n)) (ap acknowledged t.again)
+  ack_taken t f n =
+      ap (λ (k : ℕ). done (ack_laid k) None) (one_less s.acks)
+      ∙ does-taken [] s Ack (acknowledged (seen s)) None (acknowledged s) (rw (f, ne_eqb s.acks 0 n)) (ap acknowledged t.again)
 
   -- ---- FAIL
 
@@ -108,9 +110,9 @@ module _ (s : Pair) where
   unfolding handle refuse seen
   fail_dead_lem f = does-refused [] s Fail Dead (rw f)
 
-  pub fail-taken : Tidy s → is_failed s.phase ≡ false → done (halted s) Nothing ≡ does [] s Fail
+  pub fail_taken : Tidy s → is_failed s.phase ≡ false → done (halted s) None ≡ does [] s Fail
   unfolding handle refuse seen laid halted
-  fail-taken t f = does-taken [] s Fail (halted (seen s)) Nothing (halted s) (rw f) (ap halted t.again)
+  fail_taken t f = does-taken [] s Fail (halted (seen s)) None (halted s) (rw f) (ap halted t.again)
 
   -- ---- DETECT
 
@@ -118,10 +120,20 @@ module _ (s : Pair) where
   unfolding handle refuse seen
   detect_early_lem f = does-refused [] s Detect OutOfTurn (rw f)
 
-  pub detect-waits : not (is_failed s.phase) || s.detected ≡ false → (length flying ≡ 0 → ⊥) → outcome s (refused MustWait) ≡ does [] s Detect
+  pub detect_waits : not (is_failed s.phase) || s.detected ≡ false → (length flying ≡ 0 → ⊥) → outcome s (refused MustWait) ≡ does [] s Detect
   unfolding handle refuse seen
-  detect-waits f n = does-refused [] s Detect MustWait (rw (f, ne_eqb (length flying) 0 n))
+  detect_waits f n = does-refused [] s Detect MustWait (rw (f, ne_eqb (length flying) 0 n))
 
-  pub detect-taken : Tidy s → not (is_failed s.phase) || s.detected ≡ false → length flying ≡ 0 → done (noticed s) Nothing ≡ does [] s Detect
+  pub detect_taken : Tidy s → not (is_failed s.phase) || s.detected ≡ false → length flying ≡ 0 → done (noticed s) None ≡ does [] s Detect
   unfolding handle refuse seen laid noticed
-  detect-taken t f n = does-taken [] s Detect (noticed (seen s)) Nothing (noticed s) (rw (f, eq-eqb (length flying) 0 n)) (ap noticed t.again)
+  detect_taken t f n = does-taken [] s Detect (noticed (seen s)) None (noticed s) (rw (f, eq-eqb (length flying) 0 n)) (ap noticed t.again)
+
+-- ---- what the check may use of these, for each function
+
+pub ruleset of_link = (link_none_lem, link_full_lem, link_taken, few_acks)
+
+pub ruleset of_ack = (ack_dead_lem, ack_none_lem, ack_taken)
+
+pub ruleset of_fail = (fail_dead_lem, fail_taken)
+
+pub ruleset of_detect = (detect_early_lem, detect_waits, detect_taken)

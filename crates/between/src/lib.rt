@@ -3,80 +3,76 @@
 
 ghost use Rattle.std.specs.Prelude.{◌≡◌, []};
 ghost use Rattle.rules.specs.declared.Event.TheVariants.{Link, Ack, Fail, Detect};
-ghost use Rattle.tidy.specs.Tidy.{Tidy, does};
+ghost use Rattle.tidy.specs.Tidy.{does};
 
-use rules::{Outcome, Pair, Phase, Refusal, Shown};
+use rules::{Outcome, Phase, Refusal};
+use tidy::SoundPair;
 
 // LINK: "oldest message moves to B's inbox (128), acknowledgement sets out (P4)". Refused: "none in flight 4; inbox full 6".
-pub fn link(pair: Pair) -> Outcome
-    requires { Tidy pair }
-    ensures { result ≡ does [] pair Link }
+#[tactic(auto, using(crate::proofs::Columns::of_link))]
+pub fn link(sound: SoundPair) -> Outcome
+    ensures { result ≡ does [] sound.pair Link }
 {
-    let sent = pair.link;
-    let inbox = pair.inbox;
-    let in_flight = link::count(sent);
-    let received = inbox::count(inbox);
-    if in_flight == 0 {
+    let pair = sound.pair;
+    if slots::count(&pair.link) == 0 {
         return outcomes::refused(pair, Refusal::MustWait);
     }
-    if 128 <= received {
+    if 128 <= slots::count(&pair.inbox) {
         return outcomes::refused(pair, Refusal::InboxFull);
     }
-    let left = link::without_oldest(sent);
-    let more = inbox::receive(inbox, link::oldest(sent));
     let mut next = pair;
-    next.link = left;
+    next.link = slots::without_oldest(&pair.link);
     // It fits: at most 58 messages are unacknowledged.
-    next.acks = pair.acks + 1;
-    next.inbox = more;
-    outcomes::taken(next, Shown::Nothing)
+    next.acks += 1;
+    slots::push(&mut next.inbox, slots::oldest(&pair.link));
+    outcomes::taken(next, None)
 }
 
 // ACK: "P receives one acknowledgement". Refused: "failed 2; none in flight 4".
-pub fn ack(pair: Pair) -> Outcome
-    requires { Tidy pair }
-    ensures { result ≡ does [] pair Ack }
+#[tactic(auto, using(crate::proofs::Columns::of_ack))]
+pub fn ack(sound: SoundPair) -> Outcome
+    ensures { result ≡ does [] sound.pair Ack }
 {
-    let phase = pair.phase;
-    let acks = pair.acks;
-    if phases::is_failed(phase) {
+    let pair = sound.pair;
+    if phases::is_failed(pair.phase) {
         return outcomes::refused(pair, Refusal::Dead);
     }
-    if acks == 0 {
+    if pair.acks == 0 {
         return outcomes::refused(pair, Refusal::MustWait);
     }
     let mut next = pair;
-    next.acks = acks - 1;
-    outcomes::taken(next, Shown::Nothing)
+    next.acks -= 1;
+    outcomes::taken(next, None)
 }
 
 // FAIL: "P halts for good, clock sent becomes 0": only a phase that waits keeps a clock. Refused: "failed 2".
-pub fn fail(pair: Pair) -> Outcome
-    requires { Tidy pair }
-    ensures { result ≡ does [] pair Fail }
+#[tactic(auto, using(crate::proofs::Columns::of_fail), unfolding(rules::specs::Pair::is_failed, rules::specs::Pair::halted))]
+pub fn fail(sound: SoundPair) -> Outcome
+    ensures { result ≡ does [] sound.pair Fail }
 {
-    let was = pair.phase;
-    if phases::is_failed(was) {
-        return outcomes::refused(pair, Refusal::Dead);
+    let pair = sound.pair;
+    match pair.phase {
+        Phase::Failed => outcomes::refused(pair, Refusal::Dead),
+        Phase::Running | Phase::Waiting(_) => outcomes::taken(
+            phases::with_phase(pair, Phase::Failed),
+            None,
+        ),
     }
-    outcomes::taken(phases::with_phase(pair, Phase::Failed), Shown::Nothing)
 }
 
 // DETECT: "B learns of it". Refused: "not failed, or detected 3; message in flight 4".
-pub fn detect(pair: Pair) -> Outcome
-    requires { Tidy pair }
-    ensures { result ≡ does [] pair Detect }
+#[tactic(auto, using(crate::proofs::Columns::of_detect), unfolding(rules::specs::Pair::noticed))]
+pub fn detect(sound: SoundPair) -> Outcome
+    ensures { result ≡ does [] sound.pair Detect }
 {
-    let phase = pair.phase;
-    let sent = pair.link;
-    let in_flight = link::count(sent);
-    if !phases::is_failed(phase) | pair.detected {
+    let pair = sound.pair;
+    if !phases::is_failed(pair.phase) | pair.detected {
         return outcomes::refused(pair, Refusal::OutOfTurn);
     }
-    if in_flight != 0 {
+    if slots::count(&pair.link) != 0 {
         return outcomes::refused(pair, Refusal::MustWait);
     }
     let mut next = pair;
     next.detected = true;
-    outcomes::taken(next, Shown::Nothing)
+    outcomes::taken(next, None)
 }

@@ -1,7 +1,16 @@
 -- The guest: each instruction, the boundary with a timer, and each rule of "Well formed".
 use mathlib.Core.{Bool.{Bool, false, true}, List.{[], ◌++◌, ◌∷◌, List, map}, Path.◌≡◌}
 use Rattle.std.specs.Prelude.{suc, zero, ℕ, get_or, length, replicate}
-use Rattle.rules.specs.{Boundary.{boundary, deliver, failover}, declared.{Decoded.TheVariants.{Bad, Good}, Guest.Guest, Instr.{Instr, TheVariants.{Add, Div, Jz, Load, Nop, SetTo, Start, Store, Sub, Take, Time, Timer}}, Interrupt.Interrupt, OpNo.OpNo, Shown.TheVariants.{Entry, Nothing}}, Decode.{decode, is_bad}, Guest.{fresh, onward, reg, with_counts, with_last, with_table, with_timer}, Instruction.{complete, is_time, next, perform}}
+use Rattle.rules.specs.Boundary.{boundary, deliver, failover}
+use Rattle.rules.specs.declared.Guest.{Guest}
+use Rattle.rules.specs.declared.Instr.{Instr}
+use Rattle.rules.specs.declared.Instr.TheVariants.{Add, Div, Jz, Load, Nop, SetTo, Start, Store, Sub, Take, Time, Timer}
+use Rattle.rules.specs.declared.Interrupt.{Interrupt}
+use Rattle.rules.specs.declared.OpNo.{OpNo}
+use Rattle.rules.specs.Decode.{decode, is_bad}
+use Rattle.rules.specs.Guest.{fresh, onward, reg, with_counts, with_last, with_table, with_timer}
+use Rattle.rules.specs.Instruction.{complete, is_time, next, perform}
+use Rattle.std.specs.Prelude.{Some, None}
 
 abbrev pub status : ℕ → ℕ → ℕ → Interrupt
 status s n w = record { status = s; op = record { 0 = n }; word = w }
@@ -43,7 +52,7 @@ pub record Arithmetic : Type 0 where
   -- "modulo 2^32", below 0; "rounded down"; "256y + z"
   pub below : register (Sub 4 1 3) (busy []) 4 ≡ 4294967295
   pub rounded : register (Div 4 2 0) (busy []) 4 ≡ 613566756
-  pub set : decode 1 3 2 1 9 ≡ Good (SetTo 3 513)
+  pub set : decode 1 3 2 1 9 ≡ Some (SetTo 3 513)
   -- "memory[r[y] mod 64] = r[x]": 4294967295 mod 64 is 63
   pub place : get_or (perform (Store 0 2) (busy []) 5 9).guest.mem 63 0 ≡ 7
   pub stored : register (Load 4 2) (perform (Store 0 2) (busy []) 5 9).guest 4 ≡ 7
@@ -83,17 +92,17 @@ pub record Taking : Type 0 where
 
 pub record Starting : Type 0 where
   -- "the word is read before r[z] is written", with x = z
-  pub shown : (perform (Start 0 2 0) (busy []) 5 9).shown ≡ Entry (record { op = record { 0 = 3 }; device = 2; word = 7 })
+  pub shown : (perform (Start 0 2 0) (busy []) 5 9).shown ≡ Some (record { op = record { 0 = 3 }; device = 2; word = 7 })
   pub number : register (Start 0 2 0) (busy []) 0 ≡ 3
   pub table : (perform (Start 0 2 0) (busy []) 5 9).guest.table ≡ up_to 3
   pub last_number : (perform (Start 0 2 0) (busy []) 5 9).guest.last ≡ record { 0 = 3 }
   -- "gives 0, starts nothing and shows nothing if table entries plus untaken device interrupts are 16, or the last number is 65,535"
   pub full : register (Start 0 2 3) (with_table (busy (status 1 3 8 ∷ [])) (up_to 15)) 3 ≡ 0
-  pub full_shown : (perform (Start 0 2 3) (with_table (busy (status 1 3 8 ∷ [])) (up_to 15)) 5 9).shown ≡ Nothing
+  pub full_shown : (perform (Start 0 2 3) (with_table (busy (status 1 3 8 ∷ [])) (up_to 15)) 5 9).shown ≡ None
   pub full_table : (perform (Start 0 2 3) (with_table (busy (status 1 3 8 ∷ [])) (up_to 15)) 5 9).guest.table ≡ up_to 15
   -- a timer's interrupt takes no place
   pub timer_beside : (perform (Start 0 2 3) (with_table (busy (status 3 0 8 ∷ [])) (up_to 15)) 5 9).guest.table ≡ up_to 15 ++ (record { 0 = 3 } ∷ [])
-  pub last : (perform (Start 0 2 3) (with_last (busy []) (record { 0 = 65535 })) 5 9).shown ≡ Nothing
+  pub last : (perform (Start 0 2 3) (with_last (busy []) (record { 0 = 65535 })) 5 9).shown ≡ None
   pub last_table : (perform (Start 0 2 3) (with_last (busy []) (record { 0 = 65535 })) 5 9).guest.table ≡ up_to 2
 
 -- The whole guest that each way of changing it leaves: what an instruction does not name stays
@@ -140,26 +149,26 @@ pub record Boundaries : Type 0 where
 
 -- "Well formed: a listed code, registers below 8, device below 4, jump target below N, unused bytes 0"; N is 9 here
 pub record WellFormed : Type 0 where
-  pub nop : decode 0 0 0 0 9 ≡ Good Nop
-  pub set : decode 1 7 255 255 9 ≡ Good (SetTo 7 65535)
-  pub add : decode 2 5 6 7 9 ≡ Good (Add 5 6 7)
-  pub sub : decode 3 5 6 7 9 ≡ Good (Sub 5 6 7)
-  pub div : decode 4 5 6 7 9 ≡ Good (Div 5 6 7)
-  pub load : decode 5 6 7 0 9 ≡ Good (Load 6 7)
-  pub store : decode 6 6 7 0 9 ≡ Good (Store 6 7)
-  pub jump : decode 7 7 0 8 9 ≡ Good (Jz 7 8)
-  pub high : decode 7 7 1 2 259 ≡ Good (Jz 7 258)
-  pub take : decode 8 5 6 7 9 ≡ Good (Take 5 6 7)
-  pub add_sevens : decode 2 7 7 7 9 ≡ Good (Add 7 7 7)
-  pub sub_sevens : decode 3 7 7 7 9 ≡ Good (Sub 7 7 7)
-  pub div_sevens : decode 4 7 7 7 9 ≡ Good (Div 7 7 7)
-  pub take_sevens : decode 8 7 7 7 9 ≡ Good (Take 7 7 7)
-  pub load_sevens : decode 5 7 7 0 9 ≡ Good (Load 7 7)
-  pub store_sevens : decode 6 7 7 0 9 ≡ Good (Store 7 7)
-  pub start_sevens : decode 17 7 3 7 9 ≡ Good (Start 7 3 7)
-  pub time : decode 16 7 0 0 9 ≡ Good (Time 7)
-  pub start : decode 17 6 3 7 9 ≡ Good (Start 6 3 7)
-  pub timer : decode 18 7 0 0 9 ≡ Good (Timer 7)
+  pub nop : decode 0 0 0 0 9 ≡ Some Nop
+  pub set : decode 1 7 255 255 9 ≡ Some (SetTo 7 65535)
+  pub add : decode 2 5 6 7 9 ≡ Some (Add 5 6 7)
+  pub sub : decode 3 5 6 7 9 ≡ Some (Sub 5 6 7)
+  pub div : decode 4 5 6 7 9 ≡ Some (Div 5 6 7)
+  pub load : decode 5 6 7 0 9 ≡ Some (Load 6 7)
+  pub store : decode 6 6 7 0 9 ≡ Some (Store 6 7)
+  pub jump : decode 7 7 0 8 9 ≡ Some (Jz 7 8)
+  pub high : decode 7 7 1 2 259 ≡ Some (Jz 7 258)
+  pub take : decode 8 5 6 7 9 ≡ Some (Take 5 6 7)
+  pub add_sevens : decode 2 7 7 7 9 ≡ Some (Add 7 7 7)
+  pub sub_sevens : decode 3 7 7 7 9 ≡ Some (Sub 7 7 7)
+  pub div_sevens : decode 4 7 7 7 9 ≡ Some (Div 7 7 7)
+  pub take_sevens : decode 8 7 7 7 9 ≡ Some (Take 7 7 7)
+  pub load_sevens : decode 5 7 7 0 9 ≡ Some (Load 7 7)
+  pub store_sevens : decode 6 7 7 0 9 ≡ Some (Store 7 7)
+  pub start_sevens : decode 17 7 3 7 9 ≡ Some (Start 7 3 7)
+  pub time : decode 16 7 0 0 9 ≡ Some (Time 7)
+  pub start : decode 17 6 3 7 9 ≡ Some (Start 6 3 7)
+  pub timer : decode 18 7 0 0 9 ≡ Some (Timer 7)
 
 -- x, y, z: one of them is 8, the others 0; one of them is 1, the others 0
 abbrev pub Operands : Type 0
@@ -196,7 +205,7 @@ pub record IllFormed : Type 0 where
   -- "device below 4, jump target below N"
   pub device : Ill 17 ((0, 4, 0) ∷ [])
   pub target : Ill 7 ((0, 0, 9) ∷ (0, 1, 0) ∷ [])
-  pub high_target : decode 7 0 1 3 259 ≡ Bad
+  pub high_target : decode 7 0 1 3 259 ≡ None
   -- "unused bytes 0"
   pub nop_unused : Ill 0 one_in
   pub load_unused : Ill 5 ((0, 0, 1) ∷ [])

@@ -1,13 +1,20 @@
 -- The numbers that come back, the form of an event, and the order of its refusals.
 use mathlib.Core.{List.{[], ◌++◌, ◌∷◌, List}, Path.◌≡◌}
 use Rattle.std.specs.Prelude.{◌*◌, suc, ℕ, drop, replicate, take}
-use Rattle.rules.specs.{Bytes.read_event, declared.{Answer.TheVariants.Taken, Event.TheVariants.{Ack, BEnd, BInt, BStep, Detect, Fail, Link, PEnd, PInt, PStep, PTime}, Pair.Pair, Reading.TheVariants.WellFormed, Refusal.TheVariants.{BadFile, BadProgram, Dead, EpochsUsedUp, InboxFull, Malformed, MustWait, OutOfTurn, TooShort, UnknownOperation, Unsound}}, Events.{kind, number}, Pair.{on_b, on_p}, PairSlots.{answer_number, zero_pair}}
+use Rattle.rules.specs.Bytes.{read_event}
+use Rattle.rules.specs.declared.Event.TheVariants.{Ack, BEnd, BInt, BStep, Detect, Fail, Link, PEnd, PInt, PStep, PTime}
+use Rattle.rules.specs.declared.Pair.{Pair}
+use Rattle.rules.specs.declared.Refusal.TheVariants.{BadFile, BadProgram, Dead, EpochsUsedUp, InboxFull, Malformed, MustWait, OutOfTurn, TooShort, UnknownOperation, Unsound}
+use Rattle.rules.specs.Events.{kind, number}
+use Rattle.rules.specs.Pair.{on_b, on_p}
+use Rattle.rules.specs.PairSlots.{answer_number, zero_pair}
 use Rattle.cases.specs.{Example.{case_a, case_c, example}, Guest.status, Trials.{ACK, BEND, BINT, BSTEP, DETECT, eight, epoch_no, FAIL, pair_after, PEND, PINT, PSTEP, PTIME, Refuses, RefusesAfter, trial_from}}
+use Rattle.std.specs.Prelude.{Some, Ok}
 
 -- ---- "Numbers that come back"
 
 pub record Numbers : Type 0 where
-  pub taken : answer_number Taken ≡ 0
+  pub taken : answer_number (Ok tt) ≡ 0
   pub malformed : number Malformed ≡ 1
   pub dead : number Dead ≡ 2
   pub out_of_turn : number OutOfTurn ≡ 3
@@ -39,7 +46,7 @@ pub record Kinds : Type 0 where
 pub record Forms : Type 0 where
   -- the bytes of PINT, and what they say
   pub bytes : PINT 1 258 65545 ≡ 2 ∷ 1 ∷ 2 ∷ 1 ∷ 9 ∷ 0 ∷ 1 ∷ 0 ∷ []
-  pub read : read_event (2 ∷ 1 ∷ 2 ∷ 1 ∷ 9 ∷ 0 ∷ 1 ∷ 0 ∷ []) ≡ WellFormed (PInt (status 1 258 65545))
+  pub read : read_event (2 ∷ 1 ∷ 2 ∷ 1 ∷ 9 ∷ 0 ∷ 1 ∷ 0 ∷ []) ≡ Some (PInt (status 1 258 65545))
   -- "or not 8 bytes": 7, 9, none
   pub short : Refuses example (pair_after example 2 []) (take 7 (PSTEP 0)) 1
   pub long : Refuses example (pair_after example 2 []) (PSTEP 0 ++ (0 ∷ [])) 1

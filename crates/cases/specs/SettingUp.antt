@@ -3,18 +3,22 @@
 use mathlib.Core.{List.{[], ◌++◌, ◌∷◌, List}, Path.◌≡◌}
 use Rattle.std.specs.Prelude.{◌*◌, ℕ}
 use lib.{ListN.replicate}
-use Rattle.rules.specs.{declared.{Answer.TheVariants.{Refused, Taken}, Refusal.TheVariants.BadProgram, Role.TheVariants.Following, Shown.TheVariants.Nothing}, PairSlots.{made, zero_pair}, Program.under}
+use Rattle.rules.specs.declared.Refusal.TheVariants.{BadProgram}
+use Rattle.rules.specs.declared.Role.TheVariants.{Following}
+use Rattle.rules.specs.PairSlots.{made, zero_pair}
+use Rattle.rules.specs.Program.{under}
 use Rattle.cases.specs.{Example.example, Trials.{card_b, card_p, epoch_no, pair_after}}
+use Rattle.std.specs.Prelude.{None, Ok, Err}
 
 unfoldable pub nops_and : ℕ → ℕ → ℕ → ℕ → ℕ → List ℕ
 nops_and n c x y z = replicate (4 * n) 0 ++ (c ∷ x ∷ y ∷ z ∷ [])
 
 -- "program or L bad" 8: no pair is made, and zeros stand in its place
 abbrev pub NotMade : List ℕ → ℕ → Type 0
-NotMade code l = made (under code l) ≡ record { answer = Refused BadProgram; pair = zero_pair; shown = Nothing }
+NotMade code l = made (under code l) ≡ record { answer = Err BadProgram; pair = zero_pair; shown = None }
 
 abbrev pub Made : List ℕ → ℕ → Type 0
-Made code l = (made (under code l)).answer ≡ Taken
+Made code l = (made (under code l)).answer ≡ Ok tt
 
 pub record SettingUp : Type 0 where
   -- "L 0 and 4,097: 8; 1 and 4,096 taken"

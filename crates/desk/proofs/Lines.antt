@@ -4,12 +4,8 @@ use mathlib.Core.Path.{◌≡◌, refl, sym, ap, ◌∙◌}
 use Prim.Native.Nat.{ℕ, ◌<◌, ◌≤◌}
 use native.Mathlib.Omega.{arith}
 use lib.ListN.{length, take}
-use Rattle.rules.specs.declared.Answer.{Answer}
-use Rattle.rules.specs.declared.Answer.TheVariants.{Refused, Taken}
 use Rattle.rules.specs.declared.Refusal.{Refusal}
 use Rattle.rules.specs.declared.Refusal.TheVariants.{BadFile, BadProgram, Dead, EpochsUsedUp, InboxFull, Malformed, MustWait, OutOfTurn, TooShort, UnknownOperation, Unsound}
-use Rattle.rules.specs.declared.Shown.{Shown}
-use Rattle.rules.specs.declared.Shown.TheVariants.{Entry, Nothing}
 use Rattle.rules.specs.Events.{number}
 use Rattle.rules.specs.PairSlots.{answer_number}
 use Rattle.text.proofs.Lines.{end_short}
@@ -17,12 +13,15 @@ use Rattle.text.proofs.Spelled.{front}
 use Rattle.text.specs.Lines.{end_length, end_line}
 use Rattle.words.specs.Arrays.{each}
 use Rattle.desk.specs.Bench.{Prints, Run, stopped, line_of, lines, most_events, shown_line, shows, text_length}
+use Rattle.rules.specs.declared.RecordEntry.{RecordEntry}
+use Rattle.rules.specs.Answer.{Answer}
+use Rattle.std.specs.Prelude.{Some, None, Option, Ok, Err}
 
 -- what is shown first stands first
-pub shown-first : (s : Shown) (later : Run) → lines (shows s later) ≡ shown_line s ++ lines later
+pub shown-first : (s : Option RecordEntry) (later : Run) → lines (shows s later) ≡ shown_line s ++ lines later
 unfolding lines shows shown_line each
-shown-first Nothing later = refl
-shown-first (Entry e) later = append_assoc (line_of e) _ _
+shown-first None later = refl
+shown-first (Some e) later = append_assoc (line_of e) _ _
 
 -- a run that ends has one line
 pub ends : (a : Answer) (n : ℕ) → lines (stopped a n) ≡ end_line (answer_number a) n
@@ -31,8 +30,8 @@ ends a n = refl
 
 two_digits : (a : Answer) → answer_number a < 100
 unfolding answer_number number
-two_digits Taken = omega arith
-two_digits (Refused why) = small why
+two_digits (Ok tt) = omega arith
+two_digits (Err why) = small why
   where
     small : (why : Refusal) → number why < 100
     small Malformed = omega arith

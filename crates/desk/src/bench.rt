@@ -5,29 +5,30 @@ ghost use Rattle.reader.specs.Events.{event_at, event_count};
 ghost use Rattle.rules.specs.Bytes.{stepped};
 ghost use Rattle.runfile.specs.RunFile.{read_program};
 ghost use Rattle.text.specs.Lines.{entry_length};
-ghost use Rattle.text.specs.Spelled.{Spelled};
-ghost use Rattle.desk.specs.Bench.{Prints, bench_start, lines, printed, shown_line, stopped, takes};
+ghost use Rattle.text.specs.Texts.{Puts};
+ghost use Rattle.desk.specs.Bench.{Prints, PutsRun, TakesEvents, bench_run, bench_start, lines, printed, shown_line, stopped, takes};
 
-use rules::{Answer, Outcome, Pair, Shown};
+use rules::{Answer, Outcome, Pair, RecordEntry};
+use text::Text;
 
 // The longest text that is printed of any run file: 4,096 record entries, and the end.
 pub const TEXT_LENGTH: usize = 86028;
 
 // `end A C`
-pub fn stop(text: &mut [u8], at: usize, answer: Answer, taken: usize) -> usize
-    ensures { Spelled text.old at (lines (stopped answer taken)) text.new result }
+pub fn stop(text: &mut Text, answer: Answer, taken: usize)
+    ensures { Puts text.old (lines (stopped answer taken)) text.new }
 {
-    text::put_end_line(text, at, answers::number(answer), taken)
+    text.put_end_line(answers::number(answer), taken);
 }
 
 // "a line per record entry"
-pub fn show(text: &mut [u8], at: usize, shown: Shown) -> usize
-    ensures spelled { Spelled text.old at (shown_line shown) text.new result }
+#[tactic(auto, unfolding(crate::specs::Bench::line_of, crate::specs::Bench::shown_line))]
+pub fn show(text: &mut Text, shown: Option<RecordEntry>)
+    ensures spelled { Puts text.old (shown_line shown) text.new }
     ensures short { length (shown_line shown) ≤ entry_length }
 {
-    match shown {
-        Shown::Entry(e) => text::put_entry_line(text, at, e.op.0, e.device, e.word),
-        Shown::Nothing => at,
+    if let Some(e) = shown {
+        text.put_entry_line(e.op.0, e.device, e.word);
     }
 }
 
@@ -39,46 +40,62 @@ fn turn(file: &[u8], pair: Pair, n: usize) -> Outcome
 }
 
 // The events of a run file, from a fresh pair on, until one is refused.
-fn take(file: &[u8], fresh: Pair, text: &mut [u8]) -> usize
-    ensures { Prints (lines (takes file.now fresh 0 (event_count file.now))) text.old text.new result }
+fn take(file: &[u8], fresh: Pair, text: &mut Text)
+    ensures { PutsRun (takes file.now fresh 0 (event_count file.now)) text.old text.new }
 {
     let events = reader::count(file);
     let mut pair = fresh;
-    let mut at: usize = 0;
     for n in 0..events {
         let outcome = turn(file, pair, n);
-        let answer = outcome.answer;
-        match answer {
-            Answer::Taken => {}
-            Answer::Refused(why) => return stop(text, at, Answer::Refused(why), n),
+        if let Err(why) = outcome.answer {
+            return stop(text, Err(why), n);
         }
-        let shown = outcome.shown;
-        at = show(text, at, shown);
+        show(text, outcome.shown);
         pair = outcome.pair;
     }
-    stop(text, at, Answer::Taken, events)
+    stop(text, Ok(()), events);
 }
 
 // A program and L are tried, and then the events.
-fn start(file: &[u8], text: &mut [u8]) -> usize
-    ensures { Prints (lines (bench_start file.now)) text.old text.new result }
+fn start_by<F: Fn(&[u8], Pair, &mut Text)>(file: &[u8], text: &mut Text, take: F)
+    requires callable { F.IsAlwaysCallable take }
+    requires takes { TakesEvents (F.post take) }
+    ensures { PutsRun (bench_start file.now) text.old text.new }
 {
     let made = outcomes::set_up(runfile::program(file), runfile::limit(file));
-    let answer = made.answer;
-    match answer {
-        Answer::Taken => take(file, made.pair, text),
-        Answer::Refused(why) => stop(text, 0, Answer::Refused(why), 0),
+    match made.answer {
+        Ok(()) => take(file, made.pair, text),
+        Err(why) => stop(text, Err(why), 0),
     }
 }
 
-// Runs a run file, any bytes, and spells what is printed of it at the front of the text. It answers how many bytes stand there: all that
-// are printed, where the text has TEXT_LENGTH bytes.
+// The run file is tried first.
+fn open_by<F: Fn(&[u8], Pair, &mut Text)>(file: &[u8], text: &mut Text, take: F)
+    requires callable { F.IsAlwaysCallable take }
+    requires takes { TakesEvents (F.post take) }
+    ensures { PutsRun (bench_run file.now) text.old text.new }
+{
+    match runfile::check(file) {
+        Ok(()) => start_by(file, text, take),
+        Err(why) => stop(text, Err(why), 0),
+    }
+}
+
+// Runs a run file, any bytes, and spells what is printed of it at the front of the text, where `take` takes its events, one way or another.
+// It answers how many bytes stand there: all that are printed, where the text has TEXT_LENGTH bytes.
+pub fn run_by<F: Fn(&[u8], Pair, &mut Text)>(file: &[u8], text: &mut [u8], take: F) -> usize
+    requires callable { F.IsAlwaysCallable take }
+    requires takes { TakesEvents (F.post take) }
+    ensures { Prints (printed file.now) text.old text.new result }
+{
+    let mut text = Text::new(text);
+    open_by(file, &mut text, take);
+    text.len()
+}
+
+// The same, one event after another.
 pub fn run(file: &[u8], text: &mut [u8]) -> usize
     ensures { Prints (printed file.now) text.old text.new result }
 {
-    let answer = runfile::check(file);
-    match answer {
-        Answer::Taken => start(file, text),
-        Answer::Refused(why) => stop(text, 0, Answer::Refused(why), 0),
-    }
+    run_by(file, text, take)
 }

@@ -2,3 +2,4 @@
 #![tactic(auto)]
 
 pub mod bench;
+pub mod printing;

@@ -1,11 +1,12 @@
 -- Each way out is the one that the definitions say.
-use mathlib.Core.Bool.{Bool, false, not, true}
+use mathlib.Core.Bool.{Bool, false, not, true, ◌&&◌, false≢true}
+use Rattle.std.specs.Option.{is_some}
 use mathlib.Core.List.{List, append-nil}
 use mathlib.Core.Path.{◌≡◌, refl, sym, ap, ◌∙◌}
 use Prim.Native.Nat.{ℕ, ◌<◌, ◌≤◌}
 use native.Mathlib.Omega.{arith}
 use borrow.Author.Tests.{eq-eqb, eqb-true, le-ltb, lt-ltb, ne_eqb, not-false}
-use lib.Dec.{eqb}
+use lib.Dec.{eqb, ltb}
 use lib.ListN.{drop_of_length-le, length}
 use Rattle.words.specs.Wrote.{Wrote}
 use Rattle.forms.specs.Lent.{where_taken}
@@ -14,67 +15,66 @@ use Rattle.rules.proofs.Answers.{taken-zero}
 use Rattle.rules.specs.Bytes.{apply_read, read_event}
 use Rattle.rules.specs.Events.{Verdict, in_front, refuse, refused, taken}
 use Rattle.rules.specs.PairSlots.{answer_number, apply, outcome, sound_pair}
-use Rattle.rules.specs.declared.Answer.{Answer}
-use Rattle.rules.specs.declared.Answer.TheVariants.{Refused, Taken}
 use Rattle.rules.specs.declared.Outcome.{Outcome}
 use Rattle.rules.specs.declared.Pair.{Pair}
-use Rattle.rules.specs.declared.Reading.{Reading}
-use Rattle.rules.specs.declared.Reading.TheVariants.{IllFormed, WellFormed}
 use Rattle.rules.specs.declared.RecordEntry.{RecordEntry}
 use Rattle.rules.specs.declared.Refusal.{Refusal}
 use Rattle.rules.specs.declared.Refusal.TheVariants.{BadFile, Malformed, TooShort, Unsound}
-use Rattle.rules.specs.declared.Shown.{Shown}
-use Rattle.rules.specs.declared.Shown.TheVariants.{Entry, Nothing}
 use Rattle.image.proofs.Promises.{accepted}
 use Rattle.image.proofs.Stores.{room_enough as room_fits, saved}
 use Rattle.image.specs.Stores.{Fitted, Saved, loaded, save_answer, save_leaves}
 use Rattle.firmware.specs.Firmware.{SavedFrom, Stepped, answer_of, applied, entry_after, entry_bytes, entry_length, entry_of, ill_formed, in_room, no_room, store_after}
+use Rattle.rules.specs.declared.Event.{Event}
+use Rattle.rules.specs.Answer.{Answer}
+use Rattle.std.specs.Prelude.{Some, None, Option, Ok, Err}
 
 -- ---- a verdict and its outcome
 
-pub verdict_taken : (s : Pair) (v : Verdict) → (outcome s v).answer ≡ Taken → v ≡ taken (outcome s v).pair (outcome s v).shown
+pub verdict_taken : (s : Pair) (v : Verdict) → (outcome s v).answer ≡ Ok tt → v ≡ taken (outcome s v).pair (outcome s v).shown
 unfolding outcome
 verdict_taken s (refused why) e = cc
 verdict_taken s (taken t o) e = refl
 
-pub verdict_refused : (s : Pair) (v : Verdict) {why : Refusal} → (outcome s v).answer ≡ Refused why → v ≡ refused why
+pub verdict_refused : (s : Pair) (v : Verdict) {why : Refusal} → (outcome s v).answer ≡ Err why → v ≡ refused why
 unfolding outcome
 verdict_refused s (refused why) e = cc
 verdict_refused s (taken t o) e = cc
 
 -- what is taken passed the test in front
-passed : (t : Bool) (why : Refusal) (v : Verdict) {s : Pair} {o : Shown} → refuse t why v ≡ taken s o → (t ≡ false) × (v ≡ taken s o)
+passed : (t : Bool) (why : Refusal) (v : Verdict) {s : Pair} {o : Option RecordEntry} → refuse t why v ≡ taken s o → (t ≡ false) × (v ≡ taken s o)
 unfolding refuse
 passed true why v e = (cc, cc)
 passed false why v e = (refl, e)
 
 -- ---- the entry's room
 
-pub room-any : (n : ℕ) (s : Pair) (v : Verdict) → (outcome s v).shown ≡ Nothing → outcome s v ≡ outcome s (in_room n v)
+-- an entry is shown and has no room
+pub room-short : (n : ℕ) (s : Pair) (v : Verdict) → is_some (outcome s v).shown && ltb n entry_length ≡ true → outcome s (refused TooShort) ≡ outcome s (in_room n v)
+unfolding in_room no_room outcome refuse
+room-short n s (refused why) e = absurd (false≢true e)
+room-short n s (taken t None) e = absurd (false≢true e)
+room-short n s (taken t (Some x)) e = rw e
+
+-- none is shown, or there is room
+pub room-any : (n : ℕ) (s : Pair) (v : Verdict) → is_some (outcome s v).shown && ltb n entry_length ≡ false → outcome s v ≡ outcome s (in_room n v)
 unfolding in_room no_room outcome refuse
 room-any n s (refused why) e = refl
-room-any n s (taken t Nothing) e = refl
-room-any n s (taken t (Entry x)) e = cc
-
-pub room-short : (n : ℕ) (s : Pair) (v : Verdict) {x : RecordEntry} → n < entry_length → (outcome s v).shown ≡ Entry x → outcome s (refused TooShort) ≡ outcome s (in_room n v)
-unfolding in_room no_room outcome refuse
-room-short n s (refused why) h e = cc
-room-short n s (taken t Nothing) h e = cc
-room-short n s (taken t (Entry y)) h e = rw (lt-ltb n entry_length h)
+room-any n s (taken t None) e = refl
+room-any n s (taken t (Some x)) e = rw e
 
 pub room_enough : (n : ℕ) (v : Verdict) → entry_length ≤ n → v ≡ in_room n v
 unfolding in_room no_room refuse
 room_enough n (refused why) h = refl
-room_enough n (taken t Nothing) h = refl
-room_enough n (taken t (Entry y)) h = rw (le-ltb n entry_length h)
+room_enough n (taken t None) h = refl
+room_enough n (taken t (Some y)) h = rw (le-ltb n entry_length h)
 
 -- ---- the tests in front
 
 -- a well formed event on an unsound pair
-unsound-refused : (code : List ℕ) (s : Pair) (r : Reading) → ill_formed r ≡ false → sound_pair s ≡ false → apply_read code s r ≡ refused Unsound
+unsound-refused : (code : List ℕ) (s : Pair) (r : Option Event) → ill_formed r ≡ false → sound_pair s ≡ false → apply_read code s r ≡ refused Unsound
 unfolding apply_read apply in_front ill_formed refuse
-unsound-refused code s IllFormed f u = cc
-unsound-refused code s (WellFormed ev) f u = rw (f, u)
+unsound-refused code s None f u = cc
+unsound-refused code s (Some ev) f u = rw (f, u)
 
 module _ (code store event : List ℕ) (n : ℕ) where
   pub front-form : ill_formed (read_event event) ≡ true → refused Malformed ≡ applied code store event n
@@ -100,7 +100,7 @@ module _ (code store event : List ℕ) (n : ℕ) where
           go false u = rw (unsound-refused code (image_at store) (read_event event) f u, f, eq-eqb (length store) image_length l, h, u)
 
   -- an event is taken only on a store that has the length of an image
-  pub taken-length : {s : Pair} {o : Shown} → applied code store event n ≡ taken s o → length store ≡ image_length
+  pub taken-length : {s : Pair} {o : Option RecordEntry} → applied code store event n ≡ taken s o → length store ≡ image_length
   unfolding applied
   taken-length e =
       let x = passed (ill_formed (read_event event)) Malformed _ e in
@@ -117,7 +117,7 @@ over s store l f =
     ∙ rw (room_fits (length store) (omega arith), drop_of_length-le store {i = image_length} (omega arith)) (append-nil (image_bytes s))
 
 module _ (code store event entry : List ℕ) {o : Outcome} (e : o ≡ outcome (image_at store) (applied code store event (length entry))) where
-  pub step-taken : {a : Answer} {left shown : List ℕ} → o.answer ≡ Taken → Fitted o.pair store a left → Wrote entry 0 (entry_bytes (entry_of o.shown)) shown
+  pub step-taken : {a : Answer} {left shown : List ℕ} → o.answer ≡ Ok tt → Fitted o.pair store a left → Wrote entry 0 (entry_bytes (entry_of o.shown)) shown
       → Stepped code store event entry 0 left shown
   unfolding answer_of store_after entry_after
   step-taken t f w =
@@ -128,7 +128,7 @@ module _ (code store event entry : List ℕ) {o : Outcome} (e : o ≡ outcome (i
         shows = w.is ∙ sym (ap (entry_after entry) v);
       }
 
-  pub step-refused : {r : ℕ} {why : Refusal} → o.answer ≡ Refused why → r ≡ answer_number (Refused why) → Stepped code store event entry r store entry
+  pub step-refused : {r : ℕ} {why : Refusal} → o.answer ≡ Err why → r ≡ answer_number (Err why) → Stepped code store event entry r store entry
   unfolding answer_number answer_of store_after entry_after
   step-refused {why = why} t n =
       let v : applied code store event (length entry) ≡ refused why = verdict_refused (image_at store) (applied code store event (length entry)) (rw e at t) in
@@ -139,7 +139,7 @@ module _ (code store event entry : List ℕ) {o : Outcome} (e : o ≡ outcome (i
       }
 
 module _ (store buf : List ℕ) {l : Outcome} (e : l ≡ loaded store) where
-  pub save-taken : {a : Answer} {r : ℕ} {left : List ℕ} → l.answer ≡ Taken → Fitted l.pair buf a left → r ≡ answer_number a → SavedFrom store buf r left
+  pub save-taken : {a : Answer} {r : ℕ} {left : List ℕ} → l.answer ≡ Ok tt → Fitted l.pair buf a left → r ≡ answer_number a → SavedFrom store buf r left
   unfolding where_taken
   save-taken {a = a} {left = left} t f n =
       let u : sound_pair l.pair ≡ true = rw e (accepted.sound store (taken-zero (rw e at t))) in
@@ -149,7 +149,7 @@ module _ (store buf : List ℕ) {l : Outcome} (e : l ≡ loaded store) where
         leaves = s.leaves ∙ (λ i. where_taken (sym t i) (save_leaves l.pair buf) buf) ∙ ap (λ (u : Outcome). where_taken u.answer (save_leaves u.pair buf) buf) e;
       }
 
-  pub save-refused : {why : Refusal} {r : ℕ} → l.answer ≡ Refused why → r ≡ answer_number (Refused why) → SavedFrom store buf r buf
+  pub save-refused : {why : Refusal} {r : ℕ} → l.answer ≡ Err why → r ≡ answer_number (Err why) → SavedFrom store buf r buf
   unfolding where_taken
   save-refused t n = record {
     answer = n ∙ (λ i. answer_number (where_taken (sym t i) (save_answer l.pair buf) (sym t i))) ∙ ap (λ (u : Outcome). answer_number (where_taken u.answer (save_answer u.pair buf) u.answer)) e;

@@ -15,25 +15,24 @@ use Rattle.rules.proofs.Verdicts.{IfTaken}
 use Rattle.rules.specs.Bytes.{apply_read, read_event, stepped}
 use Rattle.rules.specs.Events.{Verdict, refuse, refused, taken}
 use Rattle.rules.specs.PairSlots.{answer_number, outcome, sound_pair}
-use Rattle.rules.specs.declared.Answer.{Answer}
-use Rattle.rules.specs.declared.Answer.TheVariants.{Taken}
 use Rattle.rules.specs.declared.Pair.{Pair}
-use Rattle.rules.specs.declared.Reading.{Reading}
-use Rattle.rules.specs.declared.Reading.TheVariants.{IllFormed, WellFormed}
 use Rattle.rules.specs.declared.Refusal.TheVariants.{BadFile, Unsound}
 use Rattle.image.proofs.Stores.{room_enough as room_fits}
 use Rattle.image.specs.Stores.{loaded, save_answer, save_leaves}
 use Rattle.firmware.specs.Firmware.{answer_of, applied, entry_length, ill_formed, store_after}
 use Rattle.firmware.specs.Promises.{AsLoadStepSave, LoadStepSave, in_memory}
 use Rattle.firmware.proofs.Outcomes.{room_enough}
+use Rattle.rules.specs.declared.Event.{Event}
+use Rattle.rules.specs.Answer.{Answer}
+use Rattle.std.specs.Prelude.{Some, None, Option, Ok}
 
 -- the same by 01's numbers
-numbered : {a b : Answer} → (a ≡ Taken → b ≡ Taken) → answer_number a ≡ 0 → answer_number b ≡ 0
+numbered : {a b : Answer} → (a ≡ Ok tt → b ≡ Ok tt) → answer_number a ≡ 0 → answer_number b ≡ 0
 numbered {a = a} f q = taken-zero (f (zero-taken a q))
 
 -- saving a sound pair in the place of an image
 module _ (s : Pair) (store : List ℕ) (l : length store ≡ image_length) (u : sound_pair s ≡ true) where
-  save-answers : save_answer s store ≡ Taken
+  save-answers : save_answer s store ≡ Ok tt
   unfolding save_answer refusing
   save-answers = rw (u, room_fits (length store) (omega arith))
 
@@ -48,7 +47,7 @@ module _ (s : Pair) (store : List ℕ) (l : length store ≡ image_length) where
   answers (refused why) = refl
   answers (taken t o) = refl
 
-  saves : (v : Verdict) → IfTaken (λ t o. sound_pair t ≡ true) v → (outcome s v).answer ≡ Taken → save_answer (outcome s v).pair store ≡ Taken
+  saves : (v : Verdict) → IfTaken (λ t o. sound_pair t ≡ true) v → (outcome s v).answer ≡ Ok tt → save_answer (outcome s v).pair store ≡ Ok tt
   unfolding outcome
   saves (refused why) u q = cc
   saves (taken t o) u q = save-answers t store l u
@@ -59,10 +58,10 @@ module _ (s : Pair) (store : List ℕ) (l : length store ≡ image_length) where
   leaves (taken t o) u = save_leaves_lem t store l u
 
 -- what an event makes is sound
-sound-read : (code : List ℕ) (s : Pair) (r : Reading) → IfTaken (λ t o. sound_pair t ≡ true) (apply_read code s r)
+sound-read : (code : List ℕ) (s : Pair) (r : Option Event) → IfTaken (λ t o. sound_pair t ≡ true) (apply_read code s r)
 unfolding apply_read
-sound-read code s IllFormed = tt
-sound-read code s (WellFormed ev) = sound-apply code s ev
+sound-read code s None = tt
+sound-read code s (Some ev) = sound-apply code s ev
 
 module _ (code store event : List ℕ) (n : ℕ) (f : ill_formed (read_event event) ≡ false) (r : entry_length ≤ n) where
   -- the event's verdict on the pair of the image

@@ -8,20 +8,18 @@ use Rattle.rules.specs.Bytes.{apply_read, read_event}
 use Rattle.rules.specs.Events.{Verdict, malformed, number, refuse, refused, taken}
 use Rattle.rules.specs.PairSlots.{answer_number}
 use Rattle.rules.specs.Program.{under}
-use Rattle.rules.specs.declared.Reading.{Reading}
-use Rattle.rules.specs.declared.Reading.TheVariants.{IllFormed, WellFormed}
 use Rattle.rules.specs.declared.RecordEntry.{RecordEntry}
 use Rattle.rules.specs.declared.Refusal.TheVariants.{BadFile, Malformed, TooShort, Unsound}
-use Rattle.rules.specs.declared.Shown.{Shown}
-use Rattle.rules.specs.declared.Shown.TheVariants.{Entry, Nothing}
 use Rattle.image.specs.Stores.{loaded, retire_answer, retire_leaves, save_answer, save_leaves}
+use Rattle.rules.specs.declared.Event.{Event}
+use Rattle.std.specs.Prelude.{Some, None, Option}
 
 -- ---- step
 
 -- "malformed event, or not 8 bytes"
-unfoldable pub ill_formed : Reading → Bool
-ill_formed IllFormed = true
-ill_formed (WellFormed ev) = malformed ev
+unfoldable pub ill_formed : Option Event → Bool
+ill_formed None = true
+ill_formed (Some ev) = malformed ev
 
 -- "at most one record entry (operation 2 bytes, device 1, zero 1, word 4)"
 abbrev pub entry_length : ℕ
@@ -31,14 +29,14 @@ abbrev pub entry_bytes : RecordEntry → List ℕ
 entry_bytes e = le16 e.op.0 ++ le8 e.device ++ le8 0 ++ le32 e.word
 
 -- zeros where there is none
-unfoldable pub entry_of : Shown → RecordEntry
-entry_of Nothing = record { op = record { 0 = 0 }; device = 0; word = 0 }
-entry_of (Entry e) = e
+unfoldable pub entry_of : Option RecordEntry → RecordEntry
+entry_of None = record { op = record { 0 = 0 }; device = 0; word = 0 }
+entry_of (Some e) = e
 
 -- "lent buffer too short": of n bytes, where there is an entry to store. Where nothing is shown, any length will do
-unfoldable pub no_room : ℕ → Shown → Bool
-no_room n Nothing = false
-no_room n (Entry e) = ltb n entry_length
+unfoldable pub no_room : ℕ → Option RecordEntry → Bool
+no_room n None = false
+no_room n (Some e) = ltb n entry_length
 
 unfoldable pub in_room : ℕ → Verdict → Verdict
 in_room n (refused why) = refused why

@@ -11,23 +11,17 @@ ghost use Rattle.image.specs.Stores.{loaded};
 ghost use Rattle.firmware.specs.Firmware.{ill_formed, entry_bytes, entry_of, in_room, applied, Stepped, SavedFrom, RetiredStore};
 
 use layout::IMAGE_LENGTH;
-use rules::{Answer, OpNo, Outcome, Pair, Reading, RecordEntry, Refusal, Shown};
+use rules::{Outcome, Pair, RecordEntry, Refusal};
 
 // "at most one record entry (operation 2 bytes, device 1, zero 1, word 4)"
 const ENTRY_LENGTH: usize = 8;
 
 // The record entry of an event, zeros where there is none.
-fn entry_of(shown: Shown) -> RecordEntry
+#[tactic(auto, unfolding(crate::specs::Firmware::entry_of))]
+fn entry_of(shown: Option<RecordEntry>) -> RecordEntry
     ensures { result ≡ entry_of shown }
 {
-    match shown {
-        Shown::Entry(e) => e,
-        Shown::Nothing => RecordEntry {
-            op: OpNo(0),
-            device: 0,
-            word: 0,
-        },
-    }
+    shown.unwrap_or_default()
 }
 
 fn put_entry(e: RecordEntry, entry: &mut [u8])
@@ -40,13 +34,13 @@ fn put_entry(e: RecordEntry, entry: &mut [u8])
 }
 
 // "malformed event, or not 8 bytes"
+#[tactic(auto, unfolding(crate::specs::Firmware::ill_formed))]
 fn ill_formed(event: &[u8]) -> bool
     ensures { result ≡ ill_formed (read_event event.now) }
 {
-    let read = event::read_event(event);
-    match read {
-        Reading::WellFormed(ev) => event::malformed(ev),
-        Reading::IllFormed => true,
+    match event::read_event(event) {
+        Some(ev) => event::malformed(ev),
+        None => true,
     }
 }
 
@@ -55,16 +49,10 @@ fn step_in(program: &[u8], pair: Pair, event: &[u8], room: usize) -> Outcome
     ensures { result ≡ outcome pair (in_room room (apply_read program.now pair (read_event event.now))) }
 {
     let outcome = monitor::step(program, pair, event);
-    let shown = outcome.shown;
-    match shown {
-        Shown::Entry(_) => {
-            if room < ENTRY_LENGTH {
-                return outcomes::refused(pair, Refusal::TooShort);
-            }
-            outcome
-        }
-        Shown::Nothing => outcome,
+    if outcome.shown.is_some() & (room < ENTRY_LENGTH) {
+        return outcomes::refused(pair, Refusal::TooShort);
     }
+    outcome
 }
 
 // An event on the pair in a store: 1, 10, 11, and then what the event answers. Whether the pair of a fine image is sound is asked once, by
@@ -92,15 +80,13 @@ pub fn pair_step(program: &[u8], store: &mut [u8], event: &[u8], entry: &mut [u8
     ensures { Stepped program.now store.old event.now entry.old result store.new entry.new }
 {
     let outcome = apply(program, store, event, entry.len());
-    let answer = outcome.answer;
-    match answer {
-        Answer::Taken => {
-            image::fit(outcome.pair, store);
-            let shown = outcome.shown;
-            put_entry(entry_of(shown), entry);
+    match outcome.answer {
+        Ok(()) => {
+            let _ = image::fit(outcome.pair, store);
+            put_entry(entry_of(outcome.shown), entry);
             0
         }
-        Answer::Refused(why) => answers::number(Answer::Refused(why)),
+        Err(why) => u8::from(why),
     }
 }
 
@@ -109,13 +95,9 @@ pub fn pair_save(store: &[u8], buf: &mut [u8]) -> u8
     ensures { SavedFrom store.now buf.old result buf.new }
 {
     let loaded = image::load(store);
-    let answer = loaded.answer;
-    match answer {
-        Answer::Taken => {
-            let kept = image::fit(loaded.pair, buf);
-            answers::number(kept)
-        }
-        Answer::Refused(why) => answers::number(Answer::Refused(why)),
+    match loaded.answer {
+        Ok(()) => answers::number(image::fit(loaded.pair, buf)),
+        Err(why) => u8::from(why),
     }
 }
 
@@ -123,15 +105,12 @@ pub fn pair_save(store: &[u8], buf: &mut [u8]) -> u8
 pub fn pair_load(image: &[u8]) -> u8
     ensures { result ≡ answer_number (loaded image.now).answer }
 {
-    let loaded = image::load(image);
-    let answer = loaded.answer;
-    answers::number(answer)
+    answers::number(image::load(image).answer)
 }
 
 // Retires the store: 8, then 9; on both every byte of it is 0. Else it has a fresh pair, and zeros to its end.
 pub fn pair_retire(program: &[u8], l: u16, store: &mut [u8]) -> u8
     ensures { RetiredStore program.now l store.old result store.new }
 {
-    let retired = image::retire(program, l, store);
-    answers::number(retired)
+    answers::number(image::retire(program, l, store))
 }

@@ -1,97 +1,77 @@
 // P's instructions and interrupts: PSTEP, PINT. Each is met by a sound pair and a well formed event: `step` asks for both once.
 #![tactic(auto)]
 
-ghost use Rattle.std.specs.Prelude.{◌≡◌, true, false, []};
+ghost use Rattle.std.specs.Prelude.{◌≡◌, true, false, [], Some};
 ghost use Rattle.slots.specs.Slots.{pick, pushed};
 ghost use Rattle.rules.specs.declared.Event.TheVariants.{PStep, PInt};
-ghost use Rattle.rules.specs.declared.Decoded.TheVariants.{Good};
 ghost use Rattle.rules.specs.Decode.{fetch};
 ghost use Rattle.rules.specs.GuestSound.{proper};
 ghost use Rattle.rules.specs.Instruction.{complete, is_time};
 ghost use Rattle.rules.specs.Messages.{val as val_of};
 ghost use Rattle.rules.specs.Pair.{is_failed};
 ghost use Rattle.rules.specs.PairSlots.{used_message};
-ghost use Rattle.tidy.specs.Tidy.{Tidy, does};
+ghost use Rattle.tidy.specs.Tidy.{does};
 
-use rules::{Decoded, EpochNo, Instr, Interrupt, Message, Outcome, Pair, Refusal, Shown};
+use rules::{EpochNo, Instr, Interrupt, Message, Outcome, Refusal};
+use tidy::SoundPair;
 
 // PINT: buffer, send Int (P1).
-pub fn p_int(pair: Pair, i: Interrupt) -> Outcome
-    requires { Tidy pair × (proper i ≡ true) }
-    ensures { result ≡ does [] pair (PInt i) }
+#[tactic(auto, using(crate::proofs::Columns::of_p_int))]
+pub fn p_int(sound: SoundPair, i: Interrupt) -> Outcome
+    requires { proper i ≡ true }
+    ensures { result ≡ does [] sound.pair (PInt i) }
 {
-    let phase = pair.phase;
-    if phases::is_failed(phase) {
+    let pair = sound.pair;
+    if phases::is_failed(pair.phase) {
         return outcomes::refused(pair, Refusal::Dead);
     }
-    let p = pair.p;
-    let g = p.guest;
-    let t = g.table;
-    let held = p.buffer;
-    let o = i.op;
-    if !(table::has(t, o) & !buffer::has(held, o)) {
+    if !table::has(&pair.p.guest.table, i.op) | buffer::has(&pair.p.buffer, i.op) {
         return outcomes::refused(pair, Refusal::UnknownOperation);
     }
-    let e = p.epoch;
-    let link = pair.link;
-    let sent = link::send(link, message::int(e, i));
-    let more = buffer::add(held, i);
-    let mut card = p;
-    card.buffer = more;
     let mut next = pair;
-    next.p = card;
-    next.link = sent;
-    outcomes::taken(next, Shown::Nothing)
+    slots::push(&mut next.p.buffer, i);
+    slots::push(&mut next.link, message::int(pair.p.epoch, i));
+    outcomes::taken(next, None)
 }
 
 // What P's instruction sends: TIME its Val (P0), any other nothing.
-fn sends(link: [Message; 58], i: Instr, e: EpochNo, word: u32) -> [Message; 58]
-    ensures { result ≡ pick (is_time i) (pushed used_message link (val_of e word)) link }
+#[tactic(auto, unfolding(rules::specs::Instruction::is_time, rules::specs::Messages::val))]
+fn send(link: &mut [Message], i: Instr, e: EpochNo, word: u32)
+    ensures { link.new ≡ pick (is_time i) (pushed used_message link.old (val_of e word)) link.old }
 {
-    match i {
-        Instr::Time(_) => link::send(link, message::worded(1, e, word)),
-        _ => link,
+    if matches!(i, Instr::Time(_)) {
+        slots::push(link, message::worded(1, e, word));
     }
 }
 
 // A well formed instruction on P.
-fn p_run(pair: Pair, program: &[u8], i: Instr, word: u32) -> Outcome
-    requires { Tidy pair × (is_failed pair.phase ≡ false) × (complete pair.limit pair.p.guest ≡ false) × (fetch program.now pair.count pair.p.guest.pc ≡ Good i) }
-    ensures { result ≡ does program.now pair (PStep word) }
+#[tactic(auto, using(crate::proofs::Columns::pstep_taken))]
+fn p_run(sound: SoundPair, program: &[u8], i: Instr, word: u32) -> Outcome
+    requires { (is_failed sound.pair.phase ≡ false) × (complete sound.pair.limit sound.pair.p.guest ≡ false) × (fetch program.now sound.pair.count sound.pair.p.guest.pc ≡ Some i) }
+    ensures { result ≡ does program.now sound.pair (PStep word) }
 {
-    let p = pair.p;
-    let g = p.guest;
-    let ran = guest::instruction(i, g, pair.count, pair.limit, word);
-    let guest = ran.guest;
-    let shown = ran.shown;
-    let e = p.epoch;
-    let link = pair.link;
-    let sent = sends(link, i, e, word);
-    let mut card = p;
-    card.guest = guest;
+    let pair = sound.pair;
+    let ran = guest::instruction(i, &pair.p.guest, pair.count, pair.limit, word);
     let mut next = pair;
-    next.p = card;
-    next.link = sent;
-    outcomes::taken(next, shown)
+    next.p.guest = ran.guest;
+    send(&mut next.link, i, pair.p.epoch, word);
+    outcomes::taken(next, ran.shown)
 }
 
 // PSTEP: one instruction on P. TIME reads the word and sends Val (P0); START adds to the record.
-pub fn p_step(pair: Pair, program: &[u8], word: u32) -> Outcome
-    requires { Tidy pair }
-    ensures { result ≡ does program.now pair (PStep word) }
+#[tactic(auto, using(crate::proofs::Columns::of_p_step))]
+pub fn p_step(sound: SoundPair, program: &[u8], word: u32) -> Outcome
+    ensures { result ≡ does program.now sound.pair (PStep word) }
 {
-    let phase = pair.phase;
-    if phases::is_failed(phase) {
+    let pair = sound.pair;
+    if phases::is_failed(pair.phase) {
         return outcomes::refused(pair, Refusal::Dead);
     }
-    let p = pair.p;
-    let g = p.guest;
-    if guest::complete(g, pair.limit) {
+    if guest::complete(&pair.p.guest, pair.limit) {
         return outcomes::refused(pair, Refusal::OutOfTurn);
     }
-    let d = program::fetch(program, pair.count, g.pc);
-    match d {
-        Decoded::Good(i) => p_run(pair, program, i, word),
-        Decoded::Bad => outcomes::refused(pair, Refusal::BadProgram),
-    }
+    let Some(i) = program::fetch(program, pair.count, pair.p.guest.pc) else {
+        return outcomes::refused(pair, Refusal::BadProgram);
+    };
+    p_run(sound, program, i, word)
 }

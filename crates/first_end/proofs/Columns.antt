@@ -22,10 +22,10 @@ use Rattle.rules.specs.declared.Event.TheVariants.{PEnd, PTime}
 use Rattle.rules.specs.declared.Pair.{Pair}
 use Rattle.rules.specs.declared.Phase.TheVariants.{Running, Waiting}
 use Rattle.rules.specs.declared.Refusal.TheVariants.{Dead, EpochsUsedUp, MustWait, OutOfTurn}
-use Rattle.rules.specs.declared.Shown.TheVariants.{Nothing}
 use Rattle.slots.proofs.Entries.{entries-all}
 use Rattle.slots.specs.Slots.{entries, padded, pushed}
 use Rattle.tidy.proofs.Taken.{pair_p, taken_sending}
+use Rattle.std.specs.Prelude.{None}
 
 -- P has failed: 2
 module _ (code : List ℕ) (s : Pair) (failed : is_failed s.phase ≡ true) where
@@ -45,7 +45,7 @@ module _ (code : List ℕ) (s : Pair) (alive : is_failed s.phase ≡ false) wher
   ptime_early_lem w a = does-refused code s (PTime w) OutOfTurn (rw (alive, a))
 
   ptime_verdict : (w : ℕ) → not (complete s.limit s.p.guest) || is_waiting s.phase ≡ false
-      → handle (setup_of code s) (seen s) (PTime w) ≡ taken (on_p (seen s) (seen_card s.p) (Waiting w) (tme s.p.epoch w ∷ [])) Nothing
+      → handle (setup_of code s) (seen s) (PTime w) ≡ taken (on_p (seen s) (seen_card s.p) (Waiting w) (tme s.p.epoch w ∷ [])) None
   unfolding handle refuse seen seen_card seen_guest setup_of complete
   ptime_verdict w a = rw (alive, a)
 
@@ -53,9 +53,9 @@ module _ (code : List ℕ) (s : Pair) (alive : is_failed s.phase ≡ false) wher
   unfolding malformed
   ptime-formed w = refl
 
-  pub ptime-taken : Tidy s → (w : ℕ) → not (complete s.limit s.p.guest) || is_waiting s.phase ≡ false
-      → done (pair_p s s.p (Waiting w) (pushed used_message s.link (tme s.p.epoch w))) Nothing ≡ does code s (PTime w)
-  ptime-taken t w a = taken_sending code s t (PTime w) (ptime-formed w) (seen_card s.p) (Waiting w) Nothing (tme s.p.epoch w) (ptime_verdict w a) s.p (λ _. p-again s t)
+  pub ptime_taken : Tidy s → (w : ℕ) → not (complete s.limit s.p.guest) || is_waiting s.phase ≡ false
+      → done (pair_p s s.p (Waiting w) (pushed used_message s.link (tme s.p.epoch w))) None ≡ does code s (PTime w)
+  ptime_taken t w a = taken_sending code s t (PTime w) (ptime-formed w) (seen_card s.p) (Waiting w) None (tme s.p.epoch w) (ptime_verdict w a) s.p (λ _. p-again s t)
 
   -- ---- PEND
 
@@ -75,7 +75,7 @@ module _ (code : List ℕ) (s : Pair) (alive : is_failed s.phase ≡ false) wher
   ended = enters (seen_card s.p) (boundary (entries used_interrupt s.p.buffer) (clock_sent s.phase) (seen_guest s.p.guest))
 
   pend_verdict : is_waiting s.phase ≡ true → eqb s.p.epoch.0 65535 ≡ false → eqb (length (entries used_message s.link) + s.acks) 0 ≡ true
-      → handle (setup_of code s) (seen s) PEnd ≡ taken (on_p (seen s) ended Running (end s.p.epoch ∷ [])) Nothing
+      → handle (setup_of code s) (seen s) PEnd ≡ taken (on_p (seen s) ended Running (end s.p.epoch ∷ [])) None
   unfolding handle refuse seen seen_card
   pend_verdict a b d = rw (alive, a, b, d)
 
@@ -92,7 +92,13 @@ module _ (code : List ℕ) (s : Pair) (alive : is_failed s.phase ≡ false) wher
       ∙ laid-boundary (entries used_interrupt s.p.buffer) (clock_sent s.phase) (seen_guest s.p.guest) (p-fits s t) (entries-all used_interrupt s.p.buffer) in
       λ k. record { guest = g k; epoch = next_epoch s.p.epoch; buffer = padded 16 zero_interrupt [] }
 
-  pub pend-taken : Tidy s → is_waiting s.phase ≡ true → eqb s.p.epoch.0 65535 ≡ false → eqb (length (entries used_message s.link) + s.acks) 0 ≡ true
-      → done (pair_p s (record { guest = boundary_in (entries used_interrupt s.p.buffer) (clock_sent s.phase) s.p.guest; epoch = next_epoch s.p.epoch; buffer = padded 16 zero_interrupt [] }) Running (pushed used_message s.link (end s.p.epoch))) Nothing
+  pub pend_taken : Tidy s → is_waiting s.phase ≡ true → eqb s.p.epoch.0 65535 ≡ false → eqb (length (entries used_message s.link) + s.acks) 0 ≡ true
+      → done (pair_p s (record { guest = boundary_in (entries used_interrupt s.p.buffer) (clock_sent s.phase) s.p.guest; epoch = next_epoch s.p.epoch; buffer = padded 16 zero_interrupt [] }) Running (pushed used_message s.link (end s.p.epoch))) None
       ≡ does code s PEnd
-  pend-taken t a b d = taken_sending code s t PEnd pend-formed ended Running Nothing (end s.p.epoch) (pend_verdict a b d) _ (λ _. pend_card t)
+  pend_taken t a b d = taken_sending code s t PEnd pend-formed ended Running None (end s.p.epoch) (pend_verdict a b d) _ (λ _. pend_card t)
+
+-- ---- what the check may use of these, for each function
+
+pub ruleset of_p_time = (ptime_dead_lem, ptime_early_lem, ptime_taken)
+
+pub ruleset of_p_end = (pend_dead_lem, pend_early_lem, pend_used, pend_waits_lem, pend_taken)

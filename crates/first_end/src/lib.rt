@@ -1,86 +1,58 @@
-// The end of P's epoch: PTIME, PEND. Each is met by a sound pair and a well formed event: `step` asks for both once.
+// The end of P's epoch: PTIME, PEND. Each is met by a sound pair: `step` asks for that once.
 #![tactic(auto)]
 
 ghost use Rattle.std.specs.Prelude.{◌≡◌, []};
 ghost use Rattle.rules.specs.declared.Event.TheVariants.{PTime, PEnd};
-ghost use Rattle.rules.specs.Instruction.{complete};
-ghost use Rattle.rules.specs.Pair.{clock_sent};
-ghost use Rattle.tidy.specs.Tidy.{Tidy, does};
+ghost use Rattle.tidy.specs.Tidy.{does};
 
-use rules::{Card, EpochNo, Outcome, Pair, Phase, Refusal, Shown};
+use rules::{Card, EpochNo, Outcome, Phase, Refusal};
+use tidy::SoundPair;
 
 // PTIME: send Tme with the word, keep it as the clock sent, P waits.
-pub fn p_time(pair: Pair, word: u32) -> Outcome
-    requires { Tidy pair }
-    ensures { result ≡ does [] pair (PTime word) }
+#[tactic(auto, using(crate::proofs::Columns::of_p_time), unfolding(rules::specs::Messages::tme))]
+pub fn p_time(sound: SoundPair, word: u32) -> Outcome
+    ensures { result ≡ does [] sound.pair (PTime word) }
 {
-    let phase = pair.phase;
-    if phases::is_failed(phase) {
+    let pair = sound.pair;
+    if phases::is_failed(pair.phase) {
         return outcomes::refused(pair, Refusal::Dead);
     }
-    let p = pair.p;
-    let g = p.guest;
-    if !guest::complete(g, pair.limit) | phases::is_waiting(phase) {
+    if !guest::complete(&pair.p.guest, pair.limit) | phases::is_waiting(pair.phase) {
         return outcomes::refused(pair, Refusal::OutOfTurn);
     }
-    let e = p.epoch;
-    let link = pair.link;
-    let sent = link::send(link, message::worded(3, e, word));
     let mut next = pair;
-    next.link = sent;
-    outcomes::taken(
-        phases::with_phase(next, Phase::Waiting(word)),
-        Shown::Nothing,
-    )
-}
-
-// The clock that P has sent, 0 unless it waits.
-fn clock_sent(phase: Phase) -> u32
-    ensures { result ≡ clock_sent phase }
-{
-    match phase {
-        Phase::Running => 0,
-        Phase::Waiting(clock) => clock,
-        Phase::Failed => 0,
-    }
+    next.phase = Phase::Waiting(word);
+    slots::push(&mut next.link, message::worded(3, pair.p.epoch, word));
+    outcomes::taken(next, None)
 }
 
 // PEND: boundary with the clock sent, send end, next epoch (P2).
-pub fn p_end(pair: Pair) -> Outcome
-    requires { Tidy pair }
-    ensures { result ≡ does [] pair PEnd }
+#[tactic(auto, using(crate::proofs::Columns::of_p_end), unfolding(rules::specs::Messages::end))]
+pub fn p_end(sound: SoundPair) -> Outcome
+    ensures { result ≡ does [] sound.pair PEnd }
 {
-    let phase = pair.phase;
-    if phases::is_failed(phase) {
+    let pair = sound.pair;
+    if phases::is_failed(pair.phase) {
         return outcomes::refused(pair, Refusal::Dead);
     }
-    if !phases::is_waiting(phase) {
+    if !phases::is_waiting(pair.phase) {
         return outcomes::refused(pair, Refusal::OutOfTurn);
     }
-    let p = pair.p;
-    let link = pair.link;
-    let used_up = p.epoch.0 == 65535;
-    let unacknowledged = link::count(link) + (pair.acks as usize);
-    if used_up {
+    let e = pair.p.epoch;
+    if e.0 == 65535 {
         return outcomes::refused(pair, Refusal::EpochsUsedUp);
     }
-    if unacknowledged != 0 {
+    if slots::count(&pair.link) + (pair.acks as usize) != 0 {
         return outcomes::refused(pair, Refusal::MustWait);
     }
-    let e = p.epoch;
-    let g = p.guest;
-    let held = p.buffer;
-    let guest = boundary::boundary(g, held, clock_sent(phase));
-    let buffer = buffer::empty();
-    let epoch = EpochNo(e.0 + 1);
-    let card = Card {
-        guest,
-        epoch,
-        buffer,
-    };
-    let sent = link::send(link, message::worded(4, e, 0));
+    let clock = phases::clock_sent(pair.phase);
     let mut next = pair;
-    next.p = card;
-    next.link = sent;
-    outcomes::taken(phases::with_phase(next, Phase::Running), Shown::Nothing)
+    next.p = Card {
+        guest: boundary::boundary(&pair.p.guest, &pair.p.buffer, clock),
+        epoch: EpochNo(e.0 + 1),
+        buffer: buffer::empty(),
+    };
+    next.phase = Phase::Running;
+    slots::push(&mut next.link, message::worded(4, e, 0));
+    outcomes::taken(next, None)
 }

@@ -18,30 +18,29 @@ use Rattle.rules.specs.Messages.{drop_val, first, vals}
 use Rattle.rules.specs.Pair.{idle, is_promoted, on_b, ran_on, setup_of}
 use Rattle.rules.specs.PairSlots.{laid_card, outcome, seen, seen_card, used_message, zero_message}
 use Rattle.rules.specs.Program.{at_time, bad, exec, instr}
-use Rattle.rules.specs.declared.Decoded.TheVariants.{Bad, Good}
 use Rattle.rules.specs.declared.Event.TheVariants.{BStep}
 use Rattle.rules.specs.declared.Instr.{Instr}
 use Rattle.rules.specs.declared.Message.{Message}
 use Rattle.rules.specs.declared.Pair.{Pair}
 use Rattle.rules.specs.declared.Ran.{Ran}
 use Rattle.rules.specs.declared.Refusal.TheVariants.{BadProgram, OutOfTurn}
-use Rattle.rules.specs.declared.Shown.{Shown}
-use Rattle.rules.specs.declared.Shown.TheVariants.{Nothing}
 use Rattle.slots.proofs.Tests.{or_false}
 use Rattle.slots.specs.Slots.{entries, padded, pick}
 use Rattle.tidy.proofs.Taken.{taken_on}
+use Rattle.rules.specs.declared.RecordEntry.{RecordEntry}
+use Rattle.std.specs.Prelude.{Some, None, Option}
 
 module _ (code : List ℕ) (s : Pair) (w : ℕ) where
-  pub bstep-early : idle s || complete s.limit s.b.guest ≡ true → outcome s (refused OutOfTurn) ≡ does code s (BStep w)
+  pub bstep_early : idle s || complete s.limit s.b.guest ≡ true → outcome s (refused OutOfTurn) ≡ does code s (BStep w)
   unfolding handle refuse seen seen_card seen_guest setup_of complete
-  bstep-early h = does-refused code s (BStep w) OutOfTurn (rw h)
+  bstep_early h = does-refused code s (BStep w) OutOfTurn (rw h)
 
   module _ (going : idle s || complete s.limit s.b.guest ≡ false) where
-    pub bstep_bad_lem : fetch code s.count s.b.guest.pc ≡ Bad → outcome s (refused BadProgram) ≡ does code s (BStep w)
+    pub bstep_bad_lem : fetch code s.count s.b.guest.pc ≡ None → outcome s (refused BadProgram) ≡ does code s (BStep w)
     unfolding handle refuse seen seen_card seen_guest setup_of complete bad is_bad
     bstep_bad_lem e = does-refused code s (BStep w) BadProgram (rw (going, e))
 
-    module _ (i : Instr) (found : fetch code s.count s.b.guest.pc ≡ Good i) where
+    module _ (i : Instr) (found : fetch code s.count s.b.guest.pc ≡ Some i) where
       -- the messages in the inbox, and B's clock: "the first Val of B's epoch in the inbox .., else the word" (P6)
       abbrev inbox : List Message
       inbox = entries used_message s.inbox
@@ -54,7 +53,7 @@ module _ (code : List ℕ) (s : Pair) (w : ℕ) where
       ran = perform i (seen_guest s.b.guest) (next s.count s.b.guest) clock
 
       bstep_verdict : handle (setup_of code s) (seen s) (BStep w)
-          ≡ taken (on_b (seen s) (ran_on (seen_card s.b) ran.guest) s.role (pick (is_time i) (drop_val s.b.epoch inbox) inbox)) (pick (is_promoted s.role) ran.shown Nothing)
+          ≡ taken (on_b (seen s) (ran_on (seen_card s.b) ran.guest) s.role (pick (is_time i) (drop_val s.b.epoch inbox) inbox)) (pick (is_promoted s.role) ran.shown None)
       unfolding handle refuse seen seen_card seen_guest setup_of complete bad is_bad unread at_time instr instr_of exec next
       bstep_verdict = rw (going, found)
 
@@ -80,8 +79,12 @@ module _ (code : List ℕ) (s : Pair) (w : ℕ) where
         unfolding laid_ran
         shown = ap (λ (r : Ran). r.shown) ran-laid
 
-        pub bstep-taken : done (on_b s (ran_on s.b ran_in.guest) s.role (pick (is_time i) (padded 128 zero_message (drop_val s.b.epoch inbox)) s.inbox)) (pick (is_promoted s.role) ran_in.shown Nothing)
+        pub bstep_taken : done (on_b s (ran_on s.b ran_in.guest) s.role (pick (is_time i) (padded 128 zero_message (drop_val s.b.epoch inbox)) s.inbox)) (pick (is_promoted s.role) ran_in.shown None)
             ≡ does code s (BStep w)
-        bstep-taken =
-            ap (λ (o : Shown). done (on_b s (ran_on s.b ran_in.guest) s.role (pick (is_time i) (padded 128 zero_message (drop_val s.b.epoch inbox)) s.inbox)) (pick (is_promoted s.role) o Nothing)) shown
+        bstep_taken =
+            ap (λ (o : Option RecordEntry). done (on_b s (ran_on s.b ran_in.guest) s.role (pick (is_time i) (padded 128 zero_message (drop_val s.b.epoch inbox)) s.inbox)) (pick (is_promoted s.role) o None)) shown
             ∙ taken_on s t (ran_on (seen_card s.b) ran.guest) s.role _ _ (handle (setup_of code s) (seen s) (BStep w)) bstep_verdict _ card _ (rest (is_time i))
+
+-- ---- what the check may use of these, for each function
+
+pub ruleset of_b_step = (bstep_early, bstep_bad_lem)

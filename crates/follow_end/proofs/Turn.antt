@@ -28,13 +28,13 @@ use Rattle.rules.specs.declared.Pair.{Pair}
 use Rattle.rules.specs.declared.Refusal.TheVariants.{EpochsUsedUp, MustWait, OutOfTurn}
 use Rattle.rules.specs.declared.Role.{Role}
 use Rattle.rules.specs.declared.Role.TheVariants.{Failover, Following, Promoted}
-use Rattle.rules.specs.declared.Shown.TheVariants.{Nothing}
 use Rattle.slots.proofs.Entries.{entries-all}
 use Rattle.slots.specs.Slots.{entries, every, padded, pick}
 use Rattle.tidy.proofs.Taken.{taken_on}
 use Rattle.turn.proofs.Laid.{laid-turned, laid-turned_last}
 use Rattle.turn.specs.InSlots.{turned_in, turned_last_in}
 use Rattle.follow_end.specs.InSlots.{enters_in}
+use Rattle.std.specs.Prelude.{None}
 
 -- ---- by role
 
@@ -59,32 +59,41 @@ module _ (s : Pair) (t : Tidy s) (w : ℕ) where
   unfolding enters_in laid_card enters seen_card
   enters-laid g' g e = λ k. record { guest = e k; epoch = next_epoch s.b.epoch; buffer = padded 16 zero_interrupt [] }
 
-  pub following-waits : has_end (next_epoch s.b.epoch) inbox ≡ false → s.detected ≡ false → outcome s (refused MustWait) ≡ outcome s (stored (ended (seen s) w Following))
+  pub following_waits : has_end (next_epoch s.b.epoch) inbox ≡ false → s.detected ≡ false → outcome s (refused MustWait) ≡ outcome s (stored (ended (seen s) w Following))
   unfolding ended refuse seen seen_card stored
-  following-waits h d = rw (h, d)
+  following_waits h d = rw (h, d)
 
   -- P5, or else P7: the role that B goes on in
-  pub following-goes : (b : Bool) → has_end (next_epoch s.b.epoch) inbox ≡ b → not b && not s.detected ≡ false
-      → done (on_b s (enters_in s.b (turned_in s.b.epoch s.b.guest inbox w)) (pick b Following Failover) (padded 128 zero_message (drop_epoch s.b.epoch inbox))) Nothing
+  following_goes : (b : Bool) → has_end (next_epoch s.b.epoch) inbox ≡ b → not b && not s.detected ≡ false
+      → done (on_b s (enters_in s.b (turned_in s.b.epoch s.b.guest inbox w)) (pick b Following Failover) (padded 128 zero_message (drop_epoch s.b.epoch inbox))) None
       ≡ outcome s (stored (ended (seen s) w Following))
-  following-goes b h d =
-      taken_on s t (enters (seen_card s.b) (turned (idle s) s.b.epoch (seen_guest s.b.guest) inbox w)) (pick b Following Failover) (drop_epoch s.b.epoch inbox) Nothing
+  following_goes b h d =
+      taken_on s t (enters (seen_card s.b) (turned (idle s) s.b.epoch (seen_guest s.b.guest) inbox w)) (pick b Following Failover) (drop_epoch s.b.epoch inbox) None
       (ended (seen s) w Following) verdict _
       (enters-laid _ _ (ap (λ (g : Guest). turned_in s.b.epoch g inbox w) again ∙ laid-turned s.b.epoch (seen_guest s.b.guest) inbox w (b-fits s t) ints_used)) _ refl
     where
-      verdict : ended (seen s) w Following ≡ taken (on_b (seen s) (enters (seen_card s.b) (turned (idle s) s.b.epoch (seen_guest s.b.guest) inbox w)) (pick b Following Failover) (drop_epoch s.b.epoch inbox)) Nothing
+      verdict : ended (seen s) w Following ≡ taken (on_b (seen s) (enters (seen_card s.b) (turned (idle s) s.b.epoch (seen_guest s.b.guest) inbox w)) (pick b Following Failover) (drop_epoch s.b.epoch inbox)) None
       verdict = unfold ended refuse seen seen_card in rw (h, d)
 
-  pub failover-goes : done (on_b s (enters_in s.b (turned_last_in s.b.epoch s.b.guest inbox w)) Promoted (padded 128 zero_message (drop_epoch s.b.epoch inbox))) Nothing ≡ outcome s (stored (ended (seen s) w Failover))
+  -- P5, and P7
+  pub following_hears : has_end (next_epoch s.b.epoch) inbox ≡ true
+      → done (on_b s (enters_in s.b (turned_in s.b.epoch s.b.guest inbox w)) Following (padded 128 zero_message (drop_epoch s.b.epoch inbox))) None ≡ outcome s (stored (ended (seen s) w Following))
+  following_hears h = following_goes true h refl
+
+  pub following_fails : has_end (next_epoch s.b.epoch) inbox ≡ false → s.detected ≡ true
+      → done (on_b s (enters_in s.b (turned_in s.b.epoch s.b.guest inbox w)) Failover (padded 128 zero_message (drop_epoch s.b.epoch inbox))) None ≡ outcome s (stored (ended (seen s) w Following))
+  following_fails h d = following_goes false h (rw d)
+
+  pub failover_goes : done (on_b s (enters_in s.b (turned_last_in s.b.epoch s.b.guest inbox w)) Promoted (padded 128 zero_message (drop_epoch s.b.epoch inbox))) None ≡ outcome s (stored (ended (seen s) w Failover))
   unfolding ended seen seen_card
-  failover-goes =
-      taken_on s t _ Promoted _ Nothing (ended (seen s) w Failover) refl _
+  failover_goes =
+      taken_on s t _ Promoted _ None (ended (seen s) w Failover) refl _
       (enters-laid _ _ (ap (λ (g : Guest). turned_last_in s.b.epoch g inbox w) again ∙ laid-turned_last s.b.epoch (seen_guest s.b.guest) inbox w (b-fits s t) ints_used)) _ refl
 
-  pub promoted-goes : done (on_b s (enters_in s.b (boundary_in (entries used_interrupt s.b.buffer) w s.b.guest)) Promoted s.inbox) Nothing ≡ outcome s (stored (ended (seen s) w Promoted))
+  pub promoted_goes : done (on_b s (enters_in s.b (boundary_in (entries used_interrupt s.b.buffer) w s.b.guest)) Promoted s.inbox) None ≡ outcome s (stored (ended (seen s) w Promoted))
   unfolding ended seen seen_card
-  promoted-goes =
-      taken_on s t _ Promoted _ Nothing (ended (seen s) w Promoted) refl _
+  promoted_goes =
+      taken_on s t _ Promoted _ None (ended (seen s) w Promoted) refl _
       (enters-laid _ _ (ap (boundary_in (entries used_interrupt s.b.buffer) w) again ∙ laid-boundary (entries used_interrupt s.b.buffer) w (seen_guest s.b.guest) (b-fits s t) (entries-all used_interrupt s.b.buffer))) _ (inbox-same s t)
 
 -- ---- the column
@@ -102,3 +111,9 @@ module _ (s : Pair) (w : ℕ) where
     pub bend_by_role : eqb s.b.epoch.0 65535 ≡ false → (o : Role) → s.role ≡ o → outcome s (stored (ended (seen s) w o)) ≡ does [] s (BEnd w)
     unfolding handle refuse seen seen_card seen_guest setup_of complete
     bend_by_role h o e = ap (λ (v : Verdict). outcome s (stored v)) (rw (ready, h, e))
+
+-- ---- what the check may use of these, for each function
+
+pub ruleset of_end_following = (following_hears, following_fails, following_waits)
+
+pub ruleset of_b_end = (bend_early_lem, bend_used_up_lem, bend_by_role)

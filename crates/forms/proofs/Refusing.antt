@@ -5,8 +5,13 @@ use borrow.Author.Tests.{le-ltb, lt-ltb, ltb-false, ltb-true, not-false, not-tru
 use lib.Dec.{ltb}
 use native.Mathlib.Omega.{arith}
 use Rattle.rules.proofs.{Answers.not_zero, Choices.clash}
-use Rattle.rules.specs.{Events.number, PairSlots.answer_number, declared.{Answer.Answer, Answer.TheVariants.Taken, Refusal.Refusal, Refusal.TheVariants.TooShort}}
+use Rattle.rules.specs.Events.{number}
+use Rattle.rules.specs.PairSlots.{answer_number}
+use Rattle.rules.specs.declared.Refusal.{Refusal}
+use Rattle.rules.specs.declared.Refusal.TheVariants.{TooShort}
+use Rattle.rules.specs.Answer.{Answer}
 use Rattle.forms.specs.Lent.{refusing}
+use Rattle.std.specs.Prelude.{Ok}
 
 -- the answer is the first refusal where x, the second where y and not x, and else 0
 pub record Chain (x y : Bool) (why next : Refusal) (a : Answer) : Type 0 where
@@ -14,7 +19,7 @@ pub record Chain (x y : Bool) (why next : Refusal) (a : Answer) : Type 0 where
   pub second : answer_number a ≡ number next ↔ (x ≡ false) × (y ≡ true)
   pub zero : answer_number a ≡ 0 ↔ (x ≡ false) × (y ≡ false)
 
-pub chain : (x y : Bool) (why next : Refusal) → (number why ≡ number next → ⊥) → Chain x y why next (refusing x why (refusing y next Taken))
+pub chain : (x y : Bool) (why next : Refusal) → (number why ≡ number next → ⊥) → Chain x y why next (refusing x why (refusing y next (Ok tt)))
 unfolding refusing answer_number
 chain true y why next ne = record {
   first = (λ q. refl, λ q. refl);
@@ -38,7 +43,7 @@ pub record Fitting (g : Bool) (n m : ℕ) (why : Refusal) (a : Answer) : Type 0 
   pub too_short : answer_number a ≡ 9 ↔ (g ≡ true) × (n < m)
   pub taken : answer_number a ≡ 0 ↔ (g ≡ true) × (m ≤ n)
 
-pub fitting : (g : Bool) (n m : ℕ) (why : Refusal) → (number why ≡ 9 → ⊥) → Fitting g n m why (refusing (not g) why (refusing (ltb n m) TooShort Taken))
+pub fitting : (g : Bool) (n m : ℕ) (why : Refusal) → (number why ≡ 9 → ⊥) → Fitting g n m why (refusing (not g) why (refusing (ltb n m) TooShort (Ok tt)))
 unfolding number
 fitting g n m why ne =
     let c = chain (not g) (ltb n m) why TooShort ne in

@@ -1,5 +1,4 @@
 pub mod Stores
-pub mod Wiping
 pub mod Promises
 pub mod Cases
 pub mod Exact

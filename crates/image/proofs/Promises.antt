@@ -25,37 +25,36 @@ use Rattle.rules.specs.Pair.{fresh_pair}
 use Rattle.rules.specs.PairKept.{Sized}
 use Rattle.rules.specs.PairSlots.{laid, laid_card, made, outcome, sound_pair, stored, zero_message, zero_pair}
 use Rattle.rules.specs.Program.{Setup, good, under}
-use Rattle.rules.specs.declared.Answer.{Answer}
-use Rattle.rules.specs.declared.Answer.TheVariants.{Refused, Taken}
 use Rattle.rules.specs.declared.Outcome.{Outcome}
 use Rattle.rules.specs.declared.Pair.{Pair}
 use Rattle.rules.specs.declared.Refusal.{Refusal}
 use Rattle.rules.specs.declared.Refusal.TheVariants.{BadFile, BadProgram, TooShort, Unsound}
-use Rattle.rules.specs.declared.Shown.TheVariants.{Nothing}
 use Rattle.image.specs.Promises.{Accepted, Forgets, LoadOfSaved, RefusedSave, SavedOfLoad}
 use Rattle.image.specs.Stores.{Retired, Saved, loaded, retire_answer, retire_leaves, room, save_answer, save_leaves, zeros}
 use Rattle.image.proofs.Stores.{length-zeros, loaded-taken, refused-taken}
+use Rattle.rules.specs.Answer.{Answer}
+use Rattle.std.specs.Prelude.{None, Ok, Err}
 
 -- ---- what an answer 0 tells
 
-refusing-taken : (t : Bool) (why : Refusal) (a : Answer) → refusing t why a ≡ Taken → (t ≡ false) × (a ≡ Taken)
+refusing-taken : (t : Bool) (why : Refusal) (a : Answer) → refusing t why a ≡ Ok tt → (t ≡ false) × (a ≡ Ok tt)
 unfolding refusing
 refusing-taken true why a e = refused-taken e
 refusing-taken false why a e = (refl, e)
 
-refuse-taken : (s : Pair) (t : Bool) (why : Refusal) (v : Verdict) → (outcome s (refuse t why v)).answer ≡ Taken → (t ≡ false) × ((outcome s v).answer ≡ Taken)
+refuse-taken : (s : Pair) (t : Bool) (why : Refusal) (v : Verdict) → (outcome s (refuse t why v)).answer ≡ Ok tt → (t ≡ false) × ((outcome s v).answer ≡ Ok tt)
 unfolding refuse outcome
 refuse-taken s true why v e = refused-taken e
 refuse-taken s false why v e = (refl, e)
 
-room-taken : (n : ℕ) → room n ≡ Taken → image_length ≤ n
+room-taken : (n : ℕ) → room n ≡ Ok tt → image_length ≤ n
 unfolding room
-room-taken n e = ltb-false n image_length (refusing-taken (ltb n image_length) TooShort Taken e).0
+room-taken n e = ltb-false n image_length (refusing-taken (ltb n image_length) TooShort (Ok tt) e).0
 
 -- ---- save and load
 
 -- what a save that is taken leaves
-module _ (s : Pair) (buf e : List ℕ) (w : Saved s buf Taken e) where
+module _ (s : Pair) (buf e : List ℕ) (w : Saved s buf (Ok tt) e) where
   saved_sound : sound_pair s ≡ true
   unfolding save_answer
   saved_sound = not-false (sound_pair s) (refusing-taken (not (sound_pair s)) Unsound (room (length buf)) (sym w.answer)).0
@@ -64,28 +63,28 @@ module _ (s : Pair) (buf e : List ℕ) (w : Saved s buf Taken e) where
   unfolding save_leaves where_taken
   saved_bytes = w.leaves ∙ ap (λ (a : Answer). where_taken a (image_bytes s ++ drop image_length buf) buf) (sym w.answer)
 
-loaded_bytes : (s : Pair) → PairSized s → sound_pair s ≡ true → loaded (image_bytes s) ≡ done s Nothing
+loaded_bytes : (s : Pair) → PairSized s → sound_pair s ≡ true → loaded (image_bytes s) ≡ done s None
 loaded_bytes s z h =
     let back = image_at-bytes s z in
-    sym (loaded-taken (image_bytes s) (image_bytes-length s z) (ap not (both (image_bytes-fine s z) (ap sound_pair back ∙ h)))) ∙ ap (λ (t : Pair). done t Nothing) back
+    sym (loaded-taken (image_bytes s) (image_bytes-length s z) (ap not (both (image_bytes-fine s z) (ap sound_pair back ∙ h)))) ∙ ap (λ (t : Pair). done t None) back
 
 pub load_of_saved : LoadOfSaved
 load_of_saved s buf r e z v q =
-    let w : Saved s buf Taken e = rw (zero-taken r q) at v in
+    let w : Saved s buf (Ok tt) e = rw (zero-taken r q) at v in
     let same : take image_length e ≡ image_bytes s = ap (take image_length) (saved_bytes s buf e w) ∙ take_at (image_bytes s) (drop image_length buf) image_length (image_bytes-length s z) in
-    let is : loaded (take image_length e) ≡ done s Nothing = ap loaded same ∙ loaded_bytes s z (saved_sound s buf e w) in
+    let is : loaded (take image_length e) ≡ done s None = ap loaded same ∙ loaded_bytes s z (saved_sound s buf e w) in
     (taken-zero (ap (λ (o : Outcome). o.answer) is), ap (λ (o : Outcome). o.pair) is)
 
 -- what an image that is taken is
-module _ (b : List ℕ) (q : (loaded b).answer ≡ Taken) where
+module _ (b : List ℕ) (q : (loaded b).answer ≡ Ok tt) where
   abbrev Is : Type 0
   Is = (length b ≡ image_length) × (image_fine b ≡ true) × (sound_pair (image_at b) ≡ true)
 
   taken_is : Is
   unfolding loaded sound_image
   taken_is =
-      let x = refuse-taken zero_pair (not (eqb (length b) image_length)) BadFile (refuse (not (sound_image b)) Unsound (taken (image_at b) Nothing)) q in
-      let y = refuse-taken zero_pair (not (sound_image b)) Unsound (taken (image_at b) Nothing) x.1 in
+      let x = refuse-taken zero_pair (not (eqb (length b) image_length)) BadFile (refuse (not (sound_image b)) Unsound (taken (image_at b) None)) q in
+      let y = refuse-taken zero_pair (not (sound_image b)) Unsound (taken (image_at b) None) x.1 in
       let h = and_true (image_fine b) (sound_pair (image_at b)) (not-false (sound_image b) y.0) in
       (eqb-true (length b) image_length (not-false (eqb (length b) image_length) x.0), h.0, h.1)
 
@@ -99,7 +98,7 @@ saved_of_load b buf r e bytes z l w =
     let i = taken_is b q in
     let p = taken-pair b q in
     let snd : sound_pair (loaded b).pair ≡ true = ap sound_pair p ∙ i.2 in
-    let yes : r ≡ Taken = w.answer ∙ rw (snd, l) in
+    let yes : r ≡ (Ok tt) = w.answer ∙ rw (snd, l) in
     let written = saved_bytes (loaded b).pair buf e (rw yes at w) in
     let none : drop image_length buf ≡ [] = drop_of_length-le buf {i = image_length} (omega arith) in
     (taken-zero yes, written ∙ ap (λ (t : List ℕ). image_bytes (loaded b).pair ++ t) none ∙ append-nil (image_bytes (loaded b).pair) ∙ ap image_bytes p ∙ image_bytes-at b bytes i.0 i.1)
@@ -114,7 +113,7 @@ in_memory_lem s z = record {
 }
 
 -- a refusal leaves the pair
-refused-leaves : (s : Pair) (v : Verdict) {why : Refusal} → (outcome s v).answer ≡ Refused why → (outcome s v).pair ≡ s
+refused-leaves : (s : Pair) (v : Verdict) {why : Refusal} → (outcome s v).answer ≡ Err why → (outcome s v).pair ≡ s
 unfolding outcome
 refused-leaves s (refused why) q = refl
 refused-leaves s (taken t o) q = refused-taken (sym q)
@@ -158,7 +157,7 @@ module _ (S : Setup) (g : good S ≡ true) where
   made-sound = ap sound_pair made_pair ∙ sound-laid-pair (fresh_pair S) (whole_fresh S g)
 
 -- what a retiring that is taken leaves
-module _ (code : List ℕ) (l : ℕ) (store e : List ℕ) (w : Retired code l store Taken e) where
+module _ (code : List ℕ) (l : ℕ) (store e : List ℕ) (w : Retired code l store (Ok tt) e) where
   abbrev S : Setup
   S = under code l
 
@@ -177,7 +176,7 @@ module _ (code : List ℕ) (l : ℕ) (store e : List ℕ) (w : Retired code l st
   image_length_lem : length (image_bytes (made S).pair) ≡ image_length
   image_length_lem = image_bytes-length (made S).pair (made_sized S retired_good)
 
-  retired_fresh : loaded (take image_length e) ≡ done (made S).pair Nothing
+  retired_fresh : loaded (take image_length e) ≡ done (made S).pair None
   retired_fresh =
       ap (λ (b : List ℕ). loaded (take image_length b)) retired_bytes
       ∙ ap loaded (take_at (image_bytes (made S).pair) (zeros (length store - image_length)) image_length image_length_lem)
@@ -194,7 +193,7 @@ module _ (code : List ℕ) (l : ℕ) (store e : List ℕ) (w : Retired code l st
       ap length retired_bytes ∙ length-append (image_bytes (made S).pair) (zeros (length store - image_length))
       ∙ (λ i. image_length_lem i + length-zeros (length store - image_length) i) ∙ omega (arith, retired_room)
 
-module _ (code : List ℕ) (l : ℕ) (store e : List ℕ) {why : Refusal} (w : Retired code l store (Refused why) e) where
+module _ (code : List ℕ) (l : ℕ) (store e : List ℕ) {why : Refusal} (w : Retired code l store (Err why) e) where
   retired_zeros : e ≡ zeros (length store)
   unfolding retire_leaves where_taken
   retired_zeros = w.leaves ∙ ap (λ (a : Answer). where_taken a (image_bytes (made (under code l)).pair ++ zeros (length store - image_length)) (zeros (length store))) (sym w.answer)
@@ -211,5 +210,5 @@ forgets = record {
 }
   where
     by_answer : (code : List ℕ) (l : ℕ) (store : List ℕ) (r : Answer) (e : List ℕ) → Retired code l store r e → length e ≡ length store
-    by_answer code l store Taken e w = retired_length code l store e w
-    by_answer code l store (Refused why) e w = ap length (retired_zeros code l store e w) ∙ length-zeros (length store)
+    by_answer code l store (Ok tt) e w = retired_length code l store e w
+    by_answer code l store (Err why) e w = ap length (retired_zeros code l store e w) ∙ length-zeros (length store)

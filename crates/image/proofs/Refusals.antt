@@ -8,8 +8,13 @@ use lib.ListN.{length}
 use Rattle.forms.proofs.Refusing.{Chain, chain, fitting}
 use Rattle.forms.specs.Lent.{refusing}
 use Rattle.layout.specs.Image.{image_at, image_length, sound_image}
-use Rattle.rules.specs.{Events.{number, refuse, taken}, PairSlots.{outcome, sound_pair, zero_pair}, Program.{Setup, good}, declared.{Answer.TheVariants.Taken, Pair.Pair, Refusal.TheVariants.{BadFile, BadProgram, Unsound}, Shown.TheVariants.Nothing}}
+use Rattle.rules.specs.Events.{number, refuse, taken}
+use Rattle.rules.specs.PairSlots.{outcome, sound_pair, zero_pair}
+use Rattle.rules.specs.Program.{Setup, good}
+use Rattle.rules.specs.declared.Pair.{Pair}
+use Rattle.rules.specs.declared.Refusal.TheVariants.{BadFile, BadProgram, Unsound}
 use Rattle.image.specs.{Refusals.{LoadRefusals, RetireRefusals, SaveRefusals}, Stores.{loaded, retire_answer, room, save_answer}}
+use Rattle.std.specs.Prelude.{None, Ok}
 
 pub save-refusals : (s : Pair) (buf : List ℕ) → SaveRefusals s buf
 unfolding save_answer room number
@@ -24,11 +29,11 @@ retire-refusals S n =
     record { bad_program = f.refused; too_short = f.too_short; taken = f.taken }
 
 -- loading answers what a chain of the same tests does
-loaded-answer : (b : List ℕ) → (loaded b).answer ≡ refusing (not (eqb (length b) image_length)) BadFile (refusing (not (sound_image b)) Unsound Taken)
+loaded-answer : (b : List ℕ) → (loaded b).answer ≡ refusing (not (eqb (length b) image_length)) BadFile (refusing (not (sound_image b)) Unsound (Ok tt))
 unfolding loaded outcome refuse refusing
 loaded-answer b = go (not (eqb (length b) image_length)) (not (sound_image b))
   where
-    go : (x y : Bool) → (outcome zero_pair (refuse x BadFile (refuse y Unsound (taken (image_at b) Nothing)))).answer ≡ refusing x BadFile (refusing y Unsound Taken)
+    go : (x y : Bool) → (outcome zero_pair (refuse x BadFile (refuse y Unsound (taken (image_at b) None)))).answer ≡ refusing x BadFile (refusing y Unsound (Ok tt))
     go true y = refl
     go false true = refl
     go false false = refl

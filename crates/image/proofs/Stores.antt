@@ -14,37 +14,36 @@ use Rattle.layout.specs.Image.{PairSized, image_at, image_bytes, image_fine, ima
 use Rattle.rules.specs.Events.{refuse, refused, set_up}
 use Rattle.rules.specs.PairSlots.{made, outcome, sound_pair, stored, zero_pair}
 use Rattle.rules.specs.Program.{Setup, good, under}
-use Rattle.rules.specs.declared.Answer.{Answer}
-use Rattle.rules.specs.declared.Answer.TheVariants.{Refused, Taken}
 use Rattle.rules.specs.declared.Pair.{Pair}
 use Rattle.rules.specs.declared.Refusal.{Refusal}
 use Rattle.rules.specs.declared.Refusal.TheVariants.{BadFile, BadProgram, TooShort, Unsound}
-use Rattle.rules.specs.declared.Shown.TheVariants.{Nothing}
 use Rattle.outcomes.specs.Made.{done}
 use Rattle.words.specs.Wrote.{Wrote}
 use Rattle.image.specs.Stores.{Fitted, Retired, Saved, loaded, retire_answer, retire_leaves, room, save_answer, save_leaves, zeros}
+use Rattle.rules.specs.Answer.{Answer}
+use Rattle.std.specs.Prelude.{None, Ok, Err}
 
-pub room-short : (n : ℕ) → n < image_length → room n ≡ Refused TooShort
+pub room-short : (n : ℕ) → n < image_length → room n ≡ Err TooShort
 unfolding room refusing
 room-short n h = rw (lt-ltb n image_length h)
 
-pub room_enough : (n : ℕ) → image_length ≤ n → room n ≡ Taken
+pub room_enough : (n : ℕ) → image_length ≤ n → room n ≡ Ok tt
 unfolding room refusing
 room_enough n h = rw (le-ltb n image_length h)
 
 module _ (s : Pair) (buf : List ℕ) where
-  pub fitted_short : length buf < image_length → Fitted s buf (Refused TooShort) buf
+  pub fitted_short : length buf < image_length → Fitted s buf (Err TooShort) buf
   unfolding where_taken
   fitted_short h = record { answer = sym (room-short (length buf) h); leaves = rw (room-short (length buf) h) }
 
-  pub fitted : {e : List ℕ} → PairSized s → image_length ≤ length buf → Wrote buf 0 (image_bytes s) e → Fitted s buf Taken e
+  pub fitted : {e : List ℕ} → PairSized s → image_length ≤ length buf → Wrote buf 0 (image_bytes s) e → Fitted s buf (Ok tt) e
   unfolding where_taken
   fitted z h w = record {
     answer = sym (room_enough (length buf) h);
     leaves = rw (room_enough (length buf) h) (at_the_front w image_length (image_bytes-length s z) h);
   }
 
-  pub saved_unsound : not (sound_pair s) ≡ true → Saved s buf (Refused Unsound) buf
+  pub saved_unsound : not (sound_pair s) ≡ true → Saved s buf (Err Unsound) buf
   unfolding save_answer save_leaves refusing where_taken
   saved_unsound h = record { answer = rw h; leaves = rw h }
 
@@ -61,7 +60,7 @@ module _ (b : List ℕ) where
   unfolding loaded refuse sound_image
   loaded-unsound h t = rw (eq-eqb (length b) image_length h, t)
 
-  pub loaded-taken : length b ≡ image_length → not (image_fine b && sound_pair (image_at b)) ≡ false → done (image_at b) Nothing ≡ loaded b
+  pub loaded-taken : length b ≡ image_length → not (image_fine b && sound_pair (image_at b)) ≡ false → done (image_at b) None ≡ loaded b
   unfolding loaded refuse sound_image outcome
   loaded-taken h t = rw (eq-eqb (length b) image_length h, t)
 
@@ -77,15 +76,15 @@ pub length-zeros : (n : ℕ) → length (zeros n) ≡ n
 unfolding zeros
 length-zeros n = length-replicate n 0
 
-pub refused-taken : {A : Type 0} {why : Refusal} → Refused why ≡ Taken → A
+pub refused-taken : {A : Type 0} {why : Refusal} → ◌≡◌ {A = Answer} (Err why) (Ok tt) → A
 unfolding where_taken
 refused-taken e = absurd (let z : ◌≡◌ {A = ℕ} 0 1 = ap (λ (a : Answer). where_taken a 1 0) e in omega arith)
 
-set_up-answer : (S : Setup) → (made S).answer ≡ refusing (not (good S)) BadProgram Taken
+set_up-answer : (S : Setup) → (made S).answer ≡ refusing (not (good S)) BadProgram (Ok tt)
 unfolding made set_up refuse stored outcome refusing
 set_up-answer S = go (good S) refl
   where
-    go : (b : Bool) → good S ≡ b → (made S).answer ≡ refusing (not (good S)) BadProgram Taken
+    go : (b : Bool) → good S ≡ b → (made S).answer ≡ refusing (not (good S)) BadProgram (Ok tt)
     go true h = rw h
     go false h = rw h
 
@@ -97,18 +96,18 @@ fit-zeros s n wiped =
 
 module _ (code : List ℕ) (l : ℕ) (store : List ℕ) {z : List ℕ} (wiped : z ≡ zeros (length store)) where
   -- set-up refuses: the store stays wiped
-  pub retired_bad : {why : Refusal} → (made (under code l)).answer ≡ Refused why → Retired code l store (Refused why) z
+  pub retired_bad : {why : Refusal} → (made (under code l)).answer ≡ Err why → Retired code l store (Err why) z
   unfolding refusing retire_answer retire_leaves where_taken
   retired_bad {why} q = go (good (under code l)) refl (sym q ∙ set_up-answer (under code l))
     where
-      go : (b : Bool) → good (under code l) ≡ b → Refused why ≡ refusing (not (good (under code l))) BadProgram Taken → Retired code l store (Refused why) z
+      go : (b : Bool) → good (under code l) ≡ b → Err why ≡ refusing (not (good (under code l))) BadProgram (Ok tt) → Retired code l store (Err why) z
       go true h e = refused-taken (rw h at e)
       go false h e = record { answer = rw h (rw h at e); leaves = rw h wiped }
 
-  pub retired_fitted : {r : Answer} {e : List ℕ} → (made (under code l)).answer ≡ Taken → Fitted (made (under code l)).pair z r e → Retired code l store r e
+  pub retired_fitted : {r : Answer} {e : List ℕ} → (made (under code l)).answer ≡ Ok tt → Fitted (made (under code l)).pair z r e → Retired code l store r e
   unfolding refusing retire_answer retire_leaves
   retired_fitted {r} {e} q f = go (good (under code l)) refl (sym (set_up-answer (under code l)) ∙ q)
     where
-      go : (b : Bool) → good (under code l) ≡ b → refusing (not (good (under code l))) BadProgram Taken ≡ Taken → Retired code l store r e
+      go : (b : Bool) → good (under code l) ≡ b → refusing (not (good (under code l))) BadProgram (Ok tt) ≡ Ok tt → Retired code l store r e
       go true h e = record { answer = rw h (rw (wiped, length-zeros) at f.answer); leaves = rw h (f.leaves ∙ fit-zeros _ (length store) wiped) }
       go false h e = refused-taken (rw h at e)

@@ -1,10 +1,10 @@
 -- What is promised of stored pairs. `Saved`, `loaded` and `Retired` are what the code's contracts cite; all is proved in proofs/Promises.antt.
+use Rattle.rules.specs.Answer.{Answer}
 use Rattle.std.specs.Prelude.{true, List, ◌≡◌, ℕ, length, take, drop}
 use Rattle.words.specs.Numbers.{Bytes}
 use Rattle.layout.specs.Image.{image_length, PairSized}
 use Rattle.rules.specs.PairSlots.{answer_number, sound_pair, laid, seen, zero_pair, made}
 use Rattle.rules.specs.Program.{under}
-use Rattle.rules.specs.declared.Answer.{Answer}
 use Rattle.rules.specs.declared.Pair.{Pair}
 use Rattle.image.specs.Stores.{Saved, loaded, Retired, zeros}
 

@@ -6,16 +6,15 @@ use Rattle.layout.specs.Image.{image_length, image_bytes, image_at, sound_image}
 use Rattle.rules.specs.Events.{refuse, taken}
 use Rattle.rules.specs.PairSlots.{sound_pair, outcome, zero_pair, made}
 use Rattle.rules.specs.Program.{Setup, good, under}
-use Rattle.rules.specs.declared.Answer.{Answer}
-use Rattle.rules.specs.declared.Answer.TheVariants.{Taken}
 use Rattle.rules.specs.declared.Outcome.{Outcome}
 use Rattle.rules.specs.declared.Pair.{Pair}
 use Rattle.rules.specs.declared.Refusal.TheVariants.{BadProgram, TooShort, BadFile, Unsound}
-use Rattle.rules.specs.declared.Shown.TheVariants.{Nothing}
+use Rattle.rules.specs.Answer.{Answer}
+use Rattle.std.specs.Prelude.{None, Ok}
 
 -- "lent buffer too short", of n bytes
 unfoldable pub room : ℕ → Answer
-room n = refusing (ltb n image_length) TooShort Taken
+room n = refusing (ltb n image_length) TooShort (Ok tt)
 
 -- the image of s was to be written into a buffer: the answer is r, and the buffer is now e. "Saving .. into a longer buffer keeps the rest of it"
 pub record Fitted (s : Pair) (buf : List ℕ) (r : Answer) (e : List ℕ) : Type 0 where
@@ -45,7 +44,7 @@ loaded b =
     outcome zero_pair
     (refuse (not (eqb (length b) image_length)) BadFile
     (refuse (not (sound_image b)) Unsound
-    (taken (image_at b) Nothing)))
+    (taken (image_at b) None)))
 
 -- ---- retire: of the store only its length n counts. What stood in it is not even looked at
 

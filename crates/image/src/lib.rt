@@ -7,7 +7,7 @@ ghost use Rattle.rules.specs.Events.{refused};
 ghost use Rattle.rules.specs.PairSlots.{outcome, zero_pair};
 
 use layout::IMAGE_LENGTH;
-use rules::{Answer, Outcome, Pair, Refusal, Shown};
+use rules::{Answer, Outcome, Pair, Refusal};
 
 // Writes the image of a pair at the front of the buffer where it has room for it; else 9, and nothing is written. Whether the pair is
 // sound is not asked: it is for those who know that it is.
@@ -15,10 +15,10 @@ pub fn fit(pair: Pair, buf: &mut [u8]) -> Answer
     ensures { Fitted pair buf.old result buf.new }
 {
     if buf.len() < IMAGE_LENGTH {
-        return Answer::Refused(Refusal::TooShort);
+        return Err(Refusal::TooShort);
     }
     put_image::put(pair, buf);
-    Answer::Taken
+    Ok(())
 }
 
 // Saves a pair: 11 where it is unsound, then 9 where the buffer is too short. A refused save writes nothing, and a longer buffer keeps
@@ -26,8 +26,8 @@ pub fn fit(pair: Pair, buf: &mut [u8]) -> Answer
 pub fn save(pair: Pair, buf: &mut [u8]) -> Answer
     ensures { Saved pair buf.old result buf.new }
 {
-    if !pair::sound(pair) {
-        return Answer::Refused(Refusal::Unsound);
+    if !pair::sound(&pair) {
+        return Err(Refusal::Unsound);
     }
     fit(pair, buf)
 }
@@ -46,22 +46,19 @@ pub fn load(image: &[u8]) -> Outcome
     if image.len() != IMAGE_LENGTH {
         return no_pair(Refusal::BadFile);
     }
-    let fine = fine_image::fine(image);
     let pair = get_image::get(image);
-    let sound = pair::sound(pair);
-    if !(fine & sound) {
+    if !(fine_image::fine(image) & pair::sound(&pair)) {
         return no_pair(Refusal::Unsound);
     }
-    outcomes::taken(pair, Shown::Nothing)
+    outcomes::taken(pair, None)
 }
 
 // Every byte of the store becomes 0.
+#[tactic(auto, unfolding(crate::specs::Stores::zeros))]
 fn wipe(store: &mut [u8])
     ensures { store.new ≡ zeros (length store.old) }
 {
-    for i in 0..store.len() {
-        store[i] = 0;
-    }
+    store.fill(0);
 }
 
 // Retires a card: its whole store is wiped before anything else is looked at. Then 8 where the program or L is bad, 9 where the store is
@@ -71,9 +68,6 @@ pub fn retire(program: &[u8], l: u16, store: &mut [u8]) -> Answer
 {
     wipe(store);
     let made = outcomes::set_up(program, l);
-    let answer = made.answer;
-    match answer {
-        Answer::Taken => fit(made.pair, store),
-        Answer::Refused(why) => Answer::Refused(why),
-    }
+    made.answer?;
+    fit(made.pair, store)
 }

@@ -16,6 +16,7 @@ pub fn read_full<R: Read>(input: &mut R, buf: &mut [u8]) -> io::Result<usize>
     ensures failed { OnErr result ((n : ℕ) × Consumes (R.remaining input.old) (R.remaining input.new) (take n buf.new)) }
 {
     let mut done = 0;
+    // No `for`: how far a turn comes is known only when the read has brought something.
     while done < buf.len() {
         let n = input.read(&mut buf[done..])?;
         if n == 0 {

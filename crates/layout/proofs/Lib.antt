@@ -3,3 +3,4 @@ pub mod Image
 pub mod Sized
 pub mod Fine
 pub mod Cases
+pub mod Exact

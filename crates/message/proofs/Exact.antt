@@ -1,13 +1,9 @@
 -- No second outcome meets a contract. `F.Post κs a r s` is the `ensures` of F as it stands in src/lib.rt, of the arguments a and the result r.
 use mathlib.Core.Path.{◌≡◌, sym, ◌∙◌}
-use Rattle.message.proofs.free.Reads as free
 use Rattle.message.proofs.worded.Reads as worded
 use Rattle.message.proofs.int.Reads as int
 use Rattle.message.proofs.interrupt_of.Reads as interrupt-of
 use Rattle.message.proofs.of_kind.Reads as of_kind_lem
-
-pub free_exact : (κs a r r' s s' : _) → free.Post κs a r s → free.Post κs a r' s' → r ≡ r'
-free_exact κs a r r' s s' p q = p ∙ sym q
 
 pub worded_exact : (κs a r r' s s' : _) → worded.Post κs a r s → worded.Post κs a r' s' → r ≡ r'
 worded_exact κs a r r' s s' p q = p ∙ sym q

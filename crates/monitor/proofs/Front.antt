@@ -17,56 +17,56 @@ use Rattle.rules.specs.declared.Event.{Event}
 use Rattle.rules.specs.declared.Event.TheVariants.{Ack, BEnd, BInt, Detect, Fail, Link, PEnd, PInt, PTime}
 use Rattle.rules.specs.declared.Interrupt.{Interrupt}
 use Rattle.rules.specs.declared.Pair.{Pair}
-use Rattle.rules.specs.declared.Reading.TheVariants.{IllFormed, WellFormed}
 use Rattle.rules.specs.declared.Refusal.TheVariants.{BadProgram, Malformed, Unsound}
 use Rattle.slots.proofs.Tests.{and_true}
+use Rattle.std.specs.Prelude.{Some, None}
 
 module _ (code : List ℕ) (s : Pair) where
-  pub any-int : (i : Interrupt) → does [] s (PInt i) ≡ does code s (PInt i)
+  pub any_int : (i : Interrupt) → does [] s (PInt i) ≡ does code s (PInt i)
   unfolding handle
-  any-int i = refl
+  any_int i = refl
 
-  pub any-time : (w : ℕ) → does [] s (PTime w) ≡ does code s (PTime w)
+  pub any_time : (w : ℕ) → does [] s (PTime w) ≡ does code s (PTime w)
   unfolding handle setup_of
-  any-time w = refl
+  any_time w = refl
 
-  pub any-end : does [] s PEnd ≡ does code s PEnd
+  pub any_end : does [] s PEnd ≡ does code s PEnd
   unfolding handle
-  any-end = refl
+  any_end = refl
 
-  pub any-link : does [] s Link ≡ does code s Link
+  pub any_link : does [] s Link ≡ does code s Link
   unfolding handle
-  any-link = refl
+  any_link = refl
 
-  pub any-ack : does [] s Ack ≡ does code s Ack
+  pub any_ack : does [] s Ack ≡ does code s Ack
   unfolding handle
-  any-ack = refl
+  any_ack = refl
 
-  pub any-fail : does [] s Fail ≡ does code s Fail
+  pub any_fail : does [] s Fail ≡ does code s Fail
   unfolding handle
-  any-fail = refl
+  any_fail = refl
 
-  pub any-detect : does [] s Detect ≡ does code s Detect
+  pub any_detect : does [] s Detect ≡ does code s Detect
   unfolding handle
-  any-detect = refl
+  any_detect = refl
 
-  pub any-bend : (w : ℕ) → does [] s (BEnd w) ≡ does code s (BEnd w)
+  pub any_bend : (w : ℕ) → does [] s (BEnd w) ≡ does code s (BEnd w)
   unfolding handle setup_of
-  any-bend w = refl
+  any_bend w = refl
 
-  pub any-bint : (i : Interrupt) → does [] s (BInt i) ≡ does code s (BInt i)
+  pub any_bint : (i : Interrupt) → does [] s (BInt i) ≡ does code s (BInt i)
   unfolding handle
-  any-bint i = refl
+  any_bint i = refl
 
   module _ (ev : Event) where
-    pub front-malformed : malformed ev ≡ true → outcome s (refused Malformed) ≡ outcome s (apply code s ev)
+    pub front_malformed : malformed ev ≡ true → outcome s (refused Malformed) ≡ outcome s (apply code s ev)
     unfolding apply in_front refuse
-    front-malformed m = rw m
+    front_malformed m = rw m
 
     module _ (formed : malformed ev ≡ false) where
-      pub front-unsound : sound_pair s ≡ false → outcome s (refused Unsound) ≡ outcome s (apply code s ev)
+      pub front_unsound : sound_pair s ≡ false → outcome s (refused Unsound) ≡ outcome s (apply code s ev)
       unfolding apply in_front refuse
-      front-unsound u = rw (formed, u)
+      front_unsound u = rw (formed, u)
 
       pub front_length : sound_pair s ≡ true → eqb (length code) (4 * s.count) ≡ false → outcome s (refused BadProgram) ≡ outcome s (apply code s ev)
       unfolding apply in_front refuse
@@ -82,20 +82,28 @@ unfolding sound_pair
 tidy s u again = record { again = again; whole = (and_true (tight_pair s) (sound (seen s)) u).1 }
 
 -- what the two kinds with an interrupt may hold
-pub proper-int : (i : Interrupt) → malformed (PInt i) ≡ false → proper i ≡ true
+pub proper_int : (i : Interrupt) → malformed (PInt i) ≡ false → proper i ≡ true
 unfolding malformed
-proper-int i m = not-false (proper i) m
+proper_int i m = not-false (proper i) m
 
-pub proper-bint : (i : Interrupt) → malformed (BInt i) ≡ false → proper i ≡ true
+pub proper_bint : (i : Interrupt) → malformed (BInt i) ≡ false → proper i ≡ true
 unfolding malformed
-proper-bint i m = not-false (proper i) m
+proper_bint i m = not-false (proper i) m
 
 -- read, and then taken or refused
 module _ (code : List ℕ) (s : Pair) (bytes : List ℕ) where
-  pub stepped-read : (ev : Event) → read_event bytes ≡ WellFormed ev → outcome s (apply code s ev) ≡ stepped code s bytes
+  pub stepped_read : (ev : Event) → read_event bytes ≡ Some ev → outcome s (apply code s ev) ≡ stepped code s bytes
   unfolding stepped apply_read
-  stepped-read ev e = rw e
+  stepped_read ev e = rw e
 
-  pub stepped_ill : read_event bytes ≡ IllFormed → outcome s (refused Malformed) ≡ stepped code s bytes
+  pub stepped_ill : read_event bytes ≡ None → outcome s (refused Malformed) ≡ stepped code s bytes
   unfolding stepped apply_read
   stepped_ill e = rw e
+
+-- ---- what the check may use of these, for each function
+
+pub ruleset of_handle = (proper_int, proper_bint, any_int, any_time, any_end, any_link, any_ack, any_fail, any_detect, any_bend, any_bint)
+
+pub ruleset of_take = (tidy, front_malformed, front_unsound, front_length, front_passed)
+
+pub ruleset of_step = (stepped_read, stepped_ill)

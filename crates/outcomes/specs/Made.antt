@@ -1,13 +1,13 @@
 -- Set-up, and the outcomes.
 use Rattle.std.specs.Prelude.{false, [], ℕ}
 use Rattle.rules.specs.Guest.{fresh}
-use Rattle.rules.specs.declared.Answer.TheVariants.{Taken}
 use Rattle.rules.specs.declared.EpochNo.{EpochNo}
 use Rattle.rules.specs.declared.Outcome.{Outcome}
 use Rattle.rules.specs.declared.Pair.{Pair}
 use Rattle.rules.specs.declared.Phase.TheVariants.{Running}
 use Rattle.rules.specs.declared.Role.TheVariants.{Following}
-use Rattle.rules.specs.declared.Shown.{Shown}
+use Rattle.rules.specs.declared.RecordEntry.{RecordEntry}
+use Rattle.std.specs.Prelude.{Option, Ok}
 
 -- a pair in which nothing has happened: P in epoch e, B in epoch 0, following; under N and L
 abbrev pub blank : EpochNo → ℕ → ℕ → Pair
@@ -26,5 +26,5 @@ blank e n l =
     }
 
 -- taken, with the pair in memory as it is next
-abbrev pub done : Pair → Shown → Outcome
-done s o = record { answer = Taken; pair = s; shown = o }
+abbrev pub done : Pair → Option RecordEntry → Outcome
+done s o = record { answer = Ok tt; pair = s; shown = o }

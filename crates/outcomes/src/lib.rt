@@ -10,46 +10,38 @@ ghost use Rattle.rules.specs.Program.{under};
 ghost use Rattle.outcomes.specs.Made.{done, blank as blank_of};
 
 use rules::{
-    Answer, Card, EpochNo, Guest, Interrupt, Message, OpNo, Outcome, Pair, Phase, Refusal, Role,
-    Shown,
+    Card, EpochNo, Guest, Interrupt, Message, OpNo, Outcome, Pair, Phase, RecordEntry, Refusal,
+    Role,
 };
 
 // A refused pair is the pair as it came, and shows nothing.
+#[tactic(auto, unfolding(rules::specs::PairSlots::outcome))]
 pub fn refused(pair: Pair, why: Refusal) -> Outcome
     ensures { result ≡ outcome_of pair (refused_of why) }
 {
-    let answer = Answer::Refused(why);
-    let shown = Shown::Nothing;
     Outcome {
-        answer,
+        answer: Err(why),
         pair,
-        shown,
+        shown: None,
     }
 }
 
 // Taken: the next pair, and what the devices are shown.
-pub fn taken(pair: Pair, shown: Shown) -> Outcome
+pub fn taken(pair: Pair, shown: Option<RecordEntry>) -> Outcome
     ensures { result ≡ done pair shown }
 {
-    let answer = Answer::Taken;
     Outcome {
-        answer,
+        answer: Ok(()),
         pair,
         shown,
     }
 }
 
 // "Fresh: all zero"
+#[tactic(auto, unfolding(rules::specs::GuestSlots::laid_guest, rules::specs::Guest::fresh, slots::specs::Slots::padded))]
 fn fresh_guest() -> Guest
     ensures { result ≡ laid_guest fresh }
 {
-    let free = Interrupt {
-        status: 0,
-        op: OpNo(0),
-        word: 0,
-    };
-    let none = OpNo(0);
-    let last = OpNo(0);
     Guest {
         pc: 0,
         done: 0,
@@ -58,52 +50,38 @@ fn fresh_guest() -> Guest
         deadline: 0,
         regs: [0; 8],
         mem: [0; 64],
-        last,
-        table: [none; 16],
-        queue: [free; 17],
+        last: OpNo::default(),
+        table: [OpNo::default(); 16],
+        queue: [Interrupt::default(); 17],
     }
 }
 
 // A pair in which nothing has happened: both guests fresh, P in the epoch given, B in epoch 0, following.
+#[tactic(auto, unfolding(rules::specs::PairSlots::laid, rules::specs::PairSlots::laid_card, slots::specs::Slots::padded))]
 fn blank(epoch: EpochNo, n: u16, l: u16) -> Pair
     ensures { result ≡ laid_of (blank_of epoch n l) }
 {
-    let guest = fresh_guest();
-    let held = buffer::empty();
-    let zero = Message {
-        kind: 0,
-        status: 0,
-        epoch: EpochNo(0),
-        op: OpNo(0),
-        word: 0,
-    };
-    let p = Card {
-        guest,
-        epoch,
-        buffer: held,
-    };
     let b = Card {
-        guest,
+        guest: fresh_guest(),
         epoch: EpochNo(0),
-        buffer: held,
+        buffer: buffer::empty(),
     };
-    let phase = Phase::Running;
-    let role = Role::Following;
     Pair {
-        p,
-        phase,
+        p: Card { epoch, ..b },
+        phase: Phase::Running,
         b,
-        role,
+        role: Role::Following,
         detected: false,
         limit: l,
         count: n,
-        link: [zero; 58],
+        link: [Message::default(); 58],
         acks: 0,
-        inbox: [zero; 128],
+        inbox: [Message::default(); 128],
     }
 }
 
 // "Where nothing is made, zeros .. stand in its place"
+#[tactic(auto, unfolding(rules::specs::PairSlots::zero_pair))]
 pub fn nothing() -> Pair
     ensures { result ≡ zero_pair }
 {
@@ -111,14 +89,13 @@ pub fn nothing() -> Pair
 }
 
 // Set-up: a program and L to a fresh pair, or 8 and zeros in its place.
+#[tactic(auto, using(crate::proofs::Made::of_set_up))]
 pub fn set_up(program: &[u8], l: u16) -> Outcome
     ensures { result ≡ made (under program.now l) }
 {
-    let n = program.len() / 4;
-    let good = program::good_program(program);
-    if (1 <= l) & (l <= 4096) & good {
-        let count = n as u16;
-        return taken(blank(EpochNo(1), count, l), Shown::Nothing);
+    if (1 <= l) & (l <= 4096) & program::good_program(program) {
+        let n = (program.len() / 4) as u16;
+        return taken(blank(EpochNo(1), n, l), None);
     }
     refused(nothing(), Refusal::BadProgram)
 }

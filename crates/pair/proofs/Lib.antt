@@ -1,3 +1,3 @@
-pub mod Slots
-pub mod Parts
+pub mod Buffered
+pub mod Laid
 pub mod Exact

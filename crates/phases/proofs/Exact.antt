@@ -2,6 +2,7 @@
 use mathlib.Core.Path.{◌≡◌, sym, ◌∙◌}
 use Rattle.phases.proofs.is_failed.Reads as is-failed
 use Rattle.phases.proofs.is_waiting.Reads as is_waiting_lem
+use Rattle.phases.proofs.clock_sent.Reads as clock_sent
 use Rattle.phases.proofs.is_following.Reads as is-following
 use Rattle.phases.proofs.is_promoted.Reads as is-promoted
 use Rattle.phases.proofs.with_phase.Reads as with-phase
@@ -20,3 +21,6 @@ is_promoted_exact κs a r r' s s' p q = p ∙ sym q
 
 pub with_phase_exact : (κs a r r' s s' : _) → with-phase.Post κs a r s → with-phase.Post κs a r' s' → r ≡ r'
 with_phase_exact κs a r r' s s' p q = p ∙ sym q
+
+pub clock_sent_exact : (κs a r r' s s' : _) → clock_sent.Post κs a r s → clock_sent.Post κs a r' s' → r ≡ r'
+clock_sent_exact κs a r r' s s' p q = p ∙ sym q

@@ -2,74 +2,57 @@
 #![tactic(auto)]
 
 ghost use Rattle.std.specs.Prelude.{◌≡◌};
-ghost use Rattle.rules.specs.Pair.{is_failed, is_waiting, is_following, is_promoted};
+ghost use Rattle.rules.specs.Pair.{is_failed, is_waiting, is_following, is_promoted, clock_sent};
 ghost use Rattle.phases.specs.Phase.{in_phase};
 
 use rules::{Pair, Phase, Role};
 
 // P has stopped for good.
+#[tactic(auto, unfolding(rules::specs::Pair::is_failed))]
 pub fn is_failed(phase: Phase) -> bool
     ensures { result ≡ is_failed phase }
 {
-    match phase {
-        Phase::Running => false,
-        Phase::Waiting(_) => false,
-        Phase::Failed => true,
-    }
+    matches!(phase, Phase::Failed)
 }
 
 // P has sent its clock and waits for the acknowledgements.
+#[tactic(auto, unfolding(rules::specs::Pair::is_waiting))]
 pub fn is_waiting(phase: Phase) -> bool
     ensures { result ≡ is_waiting phase }
 {
+    matches!(phase, Phase::Waiting(_))
+}
+
+// The clock that P has sent while it waits, else 0.
+#[tactic(auto, unfolding(rules::specs::Pair::clock_sent))]
+pub fn clock_sent(phase: Phase) -> u32
+    ensures { result ≡ clock_sent phase }
+{
     match phase {
-        Phase::Running => false,
-        Phase::Waiting(_) => true,
-        Phase::Failed => false,
+        Phase::Waiting(clock) => clock,
+        Phase::Running | Phase::Failed => 0,
     }
 }
 
 // B follows P.
+#[tactic(auto, unfolding(rules::specs::Pair::is_following))]
 pub fn is_following(role: Role) -> bool
     ensures { result ≡ is_following role }
 {
-    match role {
-        Role::Following => true,
-        Role::Failover => false,
-        Role::Promoted => false,
-    }
+    matches!(role, Role::Following)
 }
 
 // B drives the devices.
+#[tactic(auto, unfolding(rules::specs::Pair::is_promoted))]
 pub fn is_promoted(role: Role) -> bool
     ensures { result ≡ is_promoted role }
 {
-    match role {
-        Role::Following => false,
-        Role::Failover => false,
-        Role::Promoted => true,
-    }
+    matches!(role, Role::Promoted)
 }
 
 // The pair with P in another phase.
 pub fn with_phase(pair: Pair, phase: Phase) -> Pair
     ensures { result ≡ in_phase pair phase }
 {
-    let p = pair.p;
-    let b = pair.b;
-    let role = pair.role;
-    let link = pair.link;
-    let inbox = pair.inbox;
-    Pair {
-        p,
-        phase,
-        b,
-        role,
-        detected: pair.detected,
-        limit: pair.limit,
-        count: pair.count,
-        link,
-        acks: pair.acks,
-        inbox,
-    }
+    Pair { phase, ..pair }
 }

@@ -2,8 +2,6 @@
 // The lines themselves are those of the crate requests.
 #![tactic(auto)]
 
-ghost use Rattle.std.specs.Io.{ReadsAtMost};
-
 use std::io;
 use std::io::Read;
 
@@ -19,6 +17,9 @@ const LINE_LENGTH: usize = 80064;
 // "After 65,536 requests it ends too"
 const MOST: usize = 65536;
 
+// "A header of 16 bytes"
+const HEADER_LENGTH: usize = 16;
+
 // A header: the kind, L, and the lengths of the parts A, B and C.
 #[derive(Clone, Copy)]
 struct Request {
@@ -29,33 +30,40 @@ struct Request {
     c: usize,
 }
 
-// What a header says; whether it may be answered is asked apart.
-fn read_header(header: &[u8]) -> Request {
-    let kind = words::get8(header, 0);
-    let limit = words::get16(header, 2);
-    let a = words::get32(header, 4) as usize;
-    let b = words::get32(header, 8) as usize;
-    let c = words::get32(header, 12) as usize;
-    Request {
-        kind,
-        limit,
-        a,
-        b,
-        c,
+impl Request {
+    // What a header says: nothing, where its kind is not listed or its byte 1 is not zero.
+    fn from_header(header: &[u8; HEADER_LENGTH]) -> Option<Request> {
+        let kind = header[0];
+        if !(1..=requests::KINDS).contains(&kind) || header[1] != 0 {
+            return None;
+        }
+        Some(Request {
+            kind,
+            limit: words::get16(header, 2),
+            a: words::get32(header, 4) as usize,
+            b: words::get32(header, 8) as usize,
+            c: words::get32(header, 12) as usize,
+        })
     }
 }
 
-// Reads a part of n bytes to the front of its buffer, and answers how many of them came: none of a part that is too long.
-fn fill<R: Read>(input: &mut R, buf: &mut [u8], n: usize) -> io::Result<usize>
-    ensures { ReadsAtMost result buf.new }
-{
+// Reads a part of n bytes to the front of its buffer, and hands it out: nothing, where it is too long or the input ends inside it.
+fn read_part<'b, R: Read>(
+    input: &mut R,
+    buf: &'b mut [u8],
+    n: usize,
+) -> io::Result<Option<&'b mut [u8]>> {
     if n > LONGEST {
-        return Ok(0);
+        return Ok(None);
     }
-    if n > buf.len() {
-        return Ok(0);
+    let Some(part) = buf.get_mut(..n) else {
+        return Ok(None);
+    };
+    let came = incoming::read_full(input, part)?;
+    if came < n {
+        return Ok(None);
     }
-    incoming::read_full(input, &mut buf[..n])
+    Ok(Some(part))
 }
 
 // "A kind that is not listed, a byte 1 that is not zero, a longer part, or an input that ends inside a request"
@@ -63,48 +71,17 @@ fn bad(rt: &impl Print) -> io::Result<()> {
     rt.write_all(b"bad\n")
 }
 
-// Answers a request whose parts stand at the fronts of three buffers, and writes its line.
+// Answers a request, with its parts, and writes its line.
 fn answer(
     rt: &impl Print,
-    r: Request,
+    request: Request,
     a: &[u8],
     b: &mut [u8],
     c: &mut [u8],
     text: &mut [u8],
 ) -> io::Result<()> {
-    let n = requests::answer(r.kind, r.limit, a, b, c, text);
+    let n = requests::answer(request.kind, request.limit, a, b, c, text);
     rt.write_all(&text[..n])
-}
-
-// The next request, answered: whether there may be another.
-fn answer_next<R: Read>(
-    input: &mut R,
-    rt: &impl Print,
-    a: &mut [u8],
-    b: &mut [u8],
-    c: &mut [u8],
-    text: &mut [u8],
-) -> io::Result<bool> {
-    let mut header = [0u8; 16];
-    let n = incoming::read_full(input, &mut header)?;
-    if n == 0 {
-        return Ok(false);
-    }
-    let r = read_header(&header);
-    let known = (1 <= r.kind) & (r.kind <= requests::KINDS) & (header[1] == 0);
-    if (n < 16) | !known {
-        bad(rt)?;
-        return Ok(false);
-    }
-    let in_a = fill(input, a, r.a)?;
-    let in_b = fill(input, b, r.b)?;
-    let in_c = fill(input, c, r.c)?;
-    if (in_a != r.a) | (in_b != r.b) | (in_c != r.c) {
-        bad(rt)?;
-        return Ok(false);
-    }
-    answer(rt, r, &a[..in_a], &mut b[..in_b], &mut c[..in_c], text)?;
-    Ok(true)
 }
 
 // Answers requests until the input ends or one is bad.
@@ -117,9 +94,22 @@ fn answer_each<R: Read>(
     text: &mut [u8],
 ) -> io::Result<()> {
     for _ in 0..MOST {
-        if !answer_next(input, rt, a, b, c, text)? {
-            return Ok(());
+        let mut header = [0u8; HEADER_LENGTH];
+        match incoming::read_full(input, &mut header)? {
+            0 => return Ok(()),
+            HEADER_LENGTH => {}
+            _ => return bad(rt),
         }
+        let Some(request) = Request::from_header(&header) else {
+            return bad(rt);
+        };
+        let in_a = read_part(input, a, request.a)?;
+        let in_b = read_part(input, b, request.b)?;
+        let in_c = read_part(input, c, request.c)?;
+        let (Some(in_a), Some(in_b), Some(in_c)) = (in_a, in_b, in_c) else {
+            return bad(rt);
+        };
+        answer(rt, request, in_a, in_b, in_c, text)?;
     }
     Ok(())
 }

@@ -2,10 +2,10 @@
 #![tactic(auto)]
 
 ghost use Rattle.std.specs.Prelude.{◌≡◌, ◌+◌, ◌*◌, ◌/◌, length, get_or};
-ghost use Rattle.rules.specs.Decode.{none as none_of, one as one_of, two as two_of, three as three_of, allow, decode as decode_of, fetch as fetch_of, is_bad};
+ghost use Rattle.rules.specs.Decode.{none as none_of, one as one_of, two as two_of, three as three_of, allow, decode as decode_of, fetch as fetch_of};
 ghost use Rattle.rules.specs.Program.{good_up_to, good_program};
 
-use rules::{Decoded, Instr};
+use rules::Instr;
 
 fn none(x: u8, y: u8, z: u8) -> bool
     ensures { result ≡ none_of x y z }
@@ -39,14 +39,16 @@ fn pair_of(y: u8, z: u8) -> u16
 }
 
 // The instruction where the test holds.
-fn allowed(ok: bool, i: Instr) -> Decoded
+#[tactic(auto, unfolding(rules::specs::Decode::allow))]
+fn allowed(ok: bool, i: Instr) -> Option<Instr>
     ensures { result ≡ allow ok i }
 {
-    if ok { Decoded::Good(i) } else { Decoded::Bad }
+    ok.then_some(i)
 }
 
 // "Well formed: a listed code, registers below 8, device below 4, jump target below N, unused bytes 0"
-fn decode(code: u8, x: u8, y: u8, z: u8, n: u16) -> Decoded
+#[tactic(auto, unfolding(rules::specs::Decode::decode))]
+fn decode(code: u8, x: u8, y: u8, z: u8, n: u16) -> Option<Instr>
     ensures { result ≡ decode_of code x y z n }
 {
     let k = pair_of(y, z);
@@ -63,7 +65,7 @@ fn decode(code: u8, x: u8, y: u8, z: u8, n: u16) -> Decoded
         16 => allowed(one(x, y, z), Instr::Time(x)),
         17 => allowed((x < 8) & (y < 4) & (z < 8), Instr::Start(x, y, z)),
         18 => allowed(one(x, y, z), Instr::Timer(x)),
-        _ => Decoded::Bad,
+        _ => None,
     }
 }
 
@@ -71,61 +73,44 @@ fn decode(code: u8, x: u8, y: u8, z: u8, n: u16) -> Decoded
 fn byte(program: &[u8], i: usize) -> u8
     ensures { result ≡ get_or program.now i 0 }
 {
-    if i < program.len() { program[i] } else { 0 }
+    program.get(i).copied().unwrap_or(0)
 }
 
 // The instruction at pc, of a program of n instructions.
-pub fn fetch(program: &[u8], n: u16, pc: u16) -> Decoded
+#[tactic(auto, unfolding(rules::specs::Decode::fetch))]
+pub fn fetch(program: &[u8], n: u16, pc: u16) -> Option<Instr>
     ensures { result ≡ fetch_of program.now n pc }
 {
-    if pc < n {
-        let at = 4 * (pc as usize);
-        let code = byte(program, at);
-        let x = byte(program, at + 1);
-        let y = byte(program, at + 2);
-        let z = byte(program, at + 3);
-        decode(code, x, y, z, n)
-    } else {
-        Decoded::Bad
+    if n <= pc {
+        return None;
     }
-}
-
-fn is_bad(d: Decoded) -> bool
-    ensures { result ≡ is_bad d }
-{
-    match d {
-        Decoded::Good(_) => false,
-        Decoded::Bad => true,
-    }
+    let at = 4 * (pc as usize);
+    let code = byte(program, at);
+    let x = byte(program, at + 1);
+    let y = byte(program, at + 2);
+    let z = byte(program, at + 3);
+    decode(code, x, y, z, n)
 }
 
 // Whether the first n instructions are well formed.
 fn good_up_to(program: &[u8], n: u16) -> bool
     ensures { result ≡ good_up_to program.now n n }
 {
-    let mut k = 0;
-    while k < n {
-        if is_bad(fetch(program, n, k)) {
+    for k in 0..n {
+        if fetch(program, n, k).is_none() {
             return false;
         }
-        k += 1;
     }
     true
 }
 
 // Whether a program is 1 to 1,024 well formed instructions of 4 bytes.
+#[tactic(auto, unfolding(rules::specs::Program::good_program))]
 pub fn good_program(program: &[u8]) -> bool
     ensures { result ≡ good_program program.now (length program.now / 4) }
 {
-    let len = program.len();
-    let n = len / 4;
-    if n < 1 {
-        return false;
-    }
-    if 1024 < n {
-        return false;
-    }
-    if len != 4 * n {
+    let n = program.len() / 4;
+    if (n < 1) | (1024 < n) | (program.len() != 4 * n) {
         return false;
     }
     good_up_to(program, n as u16)

@@ -16,16 +16,15 @@ use Rattle.rules.specs.declared.Event.TheVariants.{Ack, BEnd, BStep, Detect, Fai
 use Rattle.rules.specs.declared.OpNo.{OpNo}
 use Rattle.rules.specs.declared.Outcome.{Outcome}
 use Rattle.rules.specs.declared.Pair.{Pair}
-use Rattle.rules.specs.declared.Reading.{Reading}
-use Rattle.rules.specs.declared.Reading.TheVariants.{IllFormed, WellFormed}
 use Rattle.rules.specs.declared.Refusal.{Refusal}
 use Rattle.rules.specs.declared.Refusal.TheVariants.{Malformed}
+use Rattle.std.specs.Prelude.{Some, None, Option}
 
 -- ---- the kind
 
-abbrev KindOf : ℕ → Reading → Type 0
-KindOf k (WellFormed ev) = kind ev ≡ k
-KindOf k IllFormed = Unit
+abbrev KindOf : ℕ → Option Event → Type 0
+KindOf k (Some ev) = kind ev ≡ k
+KindOf k None = Unit
 
 heard-kind : (k : ℕ) (b : Bool) (ev : Event) → kind ev ≡ k → KindOf k (heard b ev)
 unfolding heard
@@ -47,25 +46,25 @@ event_kind k s o w =
     pick_case (KindOf k) (eqb k 10) _ _ (λ q. heard-kind k _ (BEnd w) (sym (eqb-true k 10 q))) λ _.
     pick_case (KindOf k) (eqb k 11) _ _ (λ q. sym (eqb-true k 11 q)) λ _. tt
 
-pub first_kind : (bytes : List ℕ) (ev : Event) → read_event bytes ≡ WellFormed ev → kind ev ≡ get_or bytes 0 0
+pub first_kind : (bytes : List ℕ) (ev : Event) → read_event bytes ≡ Some ev → kind ev ≡ get_or bytes 0 0
 unfolding read_event
 first_kind bytes ev q =
     subst (KindOf (get_or bytes 0 0)) q
-    (pick_case (KindOf (get_or bytes 0 0)) (eqb (length bytes) 8) _ IllFormed (λ _. event_kind (get_or bytes 0 0) (get_or bytes 1 0) _ _) (λ _. tt))
+    (pick_case (KindOf (get_or bytes 0 0)) (eqb (length bytes) 8) _ None (λ _. event_kind (get_or bytes 0 0) (get_or bytes 1 0) _ _) (λ _. tt))
 
 -- ---- the outcome
 
-pub stepped_ill : (code : List ℕ) (s : Pair) (bytes : List ℕ) → read_event bytes ≡ IllFormed → stepped code s bytes ≡ outcome s (refused Malformed)
+pub stepped_ill : (code : List ℕ) (s : Pair) (bytes : List ℕ) → read_event bytes ≡ None → stepped code s bytes ≡ outcome s (refused Malformed)
 unfolding stepped apply_read
-stepped_ill code s bytes q = ap (λ (r : Reading). outcome s (apply_read code s r)) q
+stepped_ill code s bytes q = ap (λ (r : Option Event). outcome s (apply_read code s r)) q
 
-pub stepped_well : (code : List ℕ) (s : Pair) (bytes : List ℕ) (ev : Event) → read_event bytes ≡ WellFormed ev → stepped code s bytes ≡ outcome s (apply code s ev)
+pub stepped_well : (code : List ℕ) (s : Pair) (bytes : List ℕ) (ev : Event) → read_event bytes ≡ Some ev → stepped code s bytes ≡ outcome s (apply code s ev)
 unfolding stepped apply_read
-stepped_well code s bytes ev q = ap (λ (r : Reading). outcome s (apply_read code s r)) q
+stepped_well code s bytes ev q = ap (λ (r : Option Event). outcome s (apply_read code s r)) q
 
 -- a property of the outcome: where it is refused, and where the event that the bytes say is taken
 pub if_stepped {κ} : (Q : Outcome → Type κ) (code : List ℕ) (s : Pair) (bytes : List ℕ) → ((why : Refusal) → Q (outcome s (refused why)))
-    → ((ev : Event) → read_event bytes ≡ WellFormed ev → IfTaken (λ t o. Q (outcome s (taken t o))) (apply code s ev)) → Q (stepped code s bytes)
+    → ((ev : Event) → read_event bytes ≡ Some ev → IfTaken (λ t o. Q (outcome s (taken t o))) (apply code s ev)) → Q (stepped code s bytes)
 unfolding stepped apply_read
 if_stepped Q code s bytes r f = go (read_event bytes) refl
   where
@@ -73,6 +72,6 @@ if_stepped Q code s bytes r f = go (read_event bytes) refl
     by_verdict (refused why) a = r why
     by_verdict (taken t o) a = a
 
-    go : (x : Reading) → read_event bytes ≡ x → Q (outcome s (apply_read code s x))
-    go IllFormed q = r Malformed
-    go (WellFormed ev) q = by_verdict (apply code s ev) (f ev q)
+    go : (x : Option Event) → read_event bytes ≡ x → Q (outcome s (apply_read code s x))
+    go None q = r Malformed
+    go (Some ev) q = by_verdict (apply code s ev) (f ev q)

@@ -29,13 +29,13 @@ use Rattle.rules.specs.declared.RecordEntry.{RecordEntry}
 use Rattle.rules.specs.declared.Refusal.TheVariants.{BadProgram, Dead, EpochsUsedUp, MustWait, OutOfTurn, UnknownOperation}
 use Rattle.rules.specs.declared.Role.{Role}
 use Rattle.rules.specs.declared.Role.TheVariants.{Failover, Following, Promoted}
-use Rattle.rules.specs.declared.Shown.TheVariants.{Nothing}
 use Rattle.slots.proofs.Tests.{or_false}
 use Rattle.promises.proofs.Follow.{Post, add}
 use Rattle.promises.proofs.Invariant.{Core, CoreOf, Inv, Keeps, Own, Stand, ahead, alone, behind, gone, less, living, own-int, own-step, own_turn, post_of, posted}
 use Rattle.promises.proofs.Ledger.{Ledger, no_cons}
 use Rattle.promises.proofs.Trail.{Trail, trail_end, trail_failed, trail_int, trail_step, trail_tme}
 use Rattle.promises.proofs.Wires.{Wires, wires_end, wires_epochs, wires_link, wires_message}
+use Rattle.std.specs.Prelude.{None}
 
 -- a message sent behind those on the link
 appended : (i : Bool) (b : Card) (inbox link x : List Message) → add x (posted i b (inbox ++ link)) ≡ posted i b (inbox ++ (link ++ x))
@@ -150,7 +150,7 @@ module _ (S : Setup) (past : List LoneStep) (h : History) (e : Ledger S h) (w : 
   unfolding handle after kind recorded noted only noticed
   keeps_detect = unless _ _ OutOfTurn _ λ _. unless _ _ MustWait _ λ _. go i
     where
-      go : Inv S past h → Inv S past (after Detect h (taken (noticed h.pair) Nothing))
+      go : Inv S past h → Inv S past (after Detect h (taken (noticed h.pair) None))
       go (behind k) = behind k
       go (ahead a) = ahead (record { role = a.role; stopped = a.stopped; entered = a.entered; lone = a.lone })
       go (alone a) = alone (record { role = a.role; stopped = a.stopped; rest = a.rest; entered = a.entered; own = a.own })
@@ -160,7 +160,7 @@ module _ (S : Setup) (past : List LoneStep) (h : History) (e : Ledger S h) (w : 
   unfolding handle after kind recorded noted only received is_following
   keeps_link_lem = if_linked _ h.pair λ m ms q _. go m ms q i
     where
-      go : (m : Message) (ms : List Message) → h.pair.link ≡ m ∷ ms → Inv S past h → Inv S past (after Link h (taken (received h.pair m ms) Nothing))
+      go : (m : Message) (ms : List Message) → h.pair.link ≡ m ∷ ms → Inv S past h → Inv S past (after Link h (taken (received h.pair m ms) None))
       go m ms q (behind k) =
           let b : Card = h.pair.b in
           behind (record {

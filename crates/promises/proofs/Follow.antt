@@ -8,7 +8,7 @@ use native.Mathlib.Omega.{arith}
 use Rattle.rules.proofs.Choices.{by_cases}
 use Rattle.rules.proofs.Effect.{perform-clock}
 use Rattle.rules.proofs.Lists.{All, all_map}
-use Rattle.rules.proofs.Messages.{Some, Without, drop_epoch-left, drop_val-left, epoch_of, gathered_append, gathered_left, part_drop_epoch, part_unread}
+use Rattle.rules.proofs.Messages.{NonEmpty, Without, drop_epoch-left, drop_val-left, epoch_of, gathered_append, gathered_left, part_drop_epoch, part_unread}
 use Rattle.rules.proofs.Parts.{part_all}
 use Rattle.rules.specs.Boundary.{boundary}
 use Rattle.rules.specs.Events.{turned, unread}
@@ -23,12 +23,12 @@ use Rattle.rules.specs.declared.Message.{Message}
 use Rattle.rules.specs.declared.Ran.{Ran}
 use Rattle.slots.specs.Slots.{pick}
 
-pub first_some : (l m : List ℕ) (v w : ℕ) → Some l → first (l ++ m) v ≡ first l w
+pub first_some : (l m : List ℕ) (v w : ℕ) → NonEmpty l → first (l ++ m) v ≡ first l w
 unfolding first
 first_some [] m v w h = absurd h
 first_some (x ∷ l) m v w h = refl
 
-some_append {ℓ} : {X : Type ℓ} (l m : List X) → Some l → Some (l ++ m)
+some_append : {X : Type 0} (l m : List X) → NonEmpty l → NonEmpty (l ++ m)
 some_append [] m h = absurd h
 some_append (x ∷ l) m h = tt
 
@@ -63,8 +63,8 @@ module _ (S : Setup) where
 
   -- the move can be made, and no word of an event is looked at
   abbrev pub Able : Move → Post → Type 0
-  Able act s = (s.idle ≡ false) × (complete S.limit s.guest ≡ false) × (at_time S s.guest ≡ true → Some (vals s.epoch s.msgs))
-  Able turn s = (not s.idle && not (complete S.limit s.guest) ≡ false) × (s.idle ≡ false → Some (tmes s.epoch s.msgs))
+  Able act s = (s.idle ≡ false) × (complete S.limit s.guest ≡ false) × (at_time S s.guest ≡ true → NonEmpty (vals s.epoch s.msgs))
+  Able turn s = (not s.idle && not (complete S.limit s.guest) ≡ false) × (s.idle ≡ false → NonEmpty (tmes s.epoch s.msgs))
 
   abbrev pub Legal : List Move → Post → Type 0
   Legal [] s = Unit
@@ -114,14 +114,14 @@ module _ (S : Setup) where
 
   -- ---- messages sent while the follower is behind change nothing on its way
 
-  pub clock_some : (g : Guest) (l m : List ℕ) (v w : ℕ) → (at_time S g ≡ true → Some l) → exec S g (first (l ++ m) v) ≡ exec S g (first l w)
+  pub clock_some : (g : Guest) (l m : List ℕ) (v w : ℕ) → (at_time S g ≡ true → NonEmpty l) → exec S g (first (l ++ m) v) ≡ exec S g (first l w)
   clock_some g l m v w h = by_cases (at_time S g) (λ t. ap (exec S g) (first_some l m v w (h t))) (λ f. exec-clock g (first (l ++ m) v) (first l w) f)
 
-  pub unread-left : (e : EpochNo) (g : Guest) (s u : List Message) → (at_time S g ≡ true → Some (vals e s)) → unread S e g (s ++ u) ≡ unread S e g s ++ u
+  pub unread-left : (e : EpochNo) (g : Guest) (s u : List Message) → (at_time S g ≡ true → NonEmpty (vals e s)) → unread S e g (s ++ u) ≡ unread S e g s ++ u
   unfolding unread
   unread-left e g s u h = go (at_time S g) h
     where
-      go : (b : Bool) → (b ≡ true → Some (vals e s)) → pick b (drop_val e (s ++ u)) (s ++ u) ≡ pick b (drop_val e s) s ++ u
+      go : (b : Bool) → (b ≡ true → NonEmpty (vals e s)) → pick b (drop_val e (s ++ u)) (s ++ u) ≡ pick b (drop_val e s) s ++ u
       go true q = drop_val-left e s u (q refl)
       go false q = refl
 
@@ -155,7 +155,7 @@ module _ (S : Setup) where
       eq = act_add s x l.0
 
       able : Able act (add x s)
-      able = (l.0.0, l.0.1, λ t. subst Some (sym (gathered_append s.epoch s.msgs x).0) (some_append (vals s.epoch s.msgs) (vals s.epoch x) (l.0.2 t)))
+      able = (l.0.0, l.0.1, λ t. subst NonEmpty (sym (gathered_append s.epoch s.msgs x).0) (some_append (vals s.epoch s.msgs) (vals s.epoch x) (l.0.2 t)))
 
       go : Sent k (move act s) x → Sent (act ∷ k) s x
       go r = record { legal = (able, subst (Legal k) (sym eq) r.legal); ends = ap (follow k) eq ∙ r.ends; guests = ap (passes k) eq ∙ r.guests }
@@ -168,7 +168,7 @@ module _ (S : Setup) where
       eq = turn-add s x (late-without s.epoch (follow k (move turn s)).epoch.0 x behind a)
 
       able : Able turn (add x s)
-      able = (l.0.0, λ t. subst Some (sym (gathered_append s.epoch s.msgs x).2) (some_append (tmes s.epoch s.msgs) (tmes s.epoch x) (l.0.1 t)))
+      able = (l.0.0, λ t. subst NonEmpty (sym (gathered_append s.epoch s.msgs x).2) (some_append (tmes s.epoch s.msgs) (tmes s.epoch x) (l.0.1 t)))
 
       go : Sent k (move turn s) x → Sent (turn ∷ k) s x
       go r =

@@ -26,7 +26,7 @@ use Rattle.rules.specs.declared.RecordEntry.{RecordEntry}
 use Rattle.rules.specs.declared.Refusal.TheVariants.{BadProgram, Dead, EpochsUsedUp, MustWait, OutOfTurn, UnknownOperation}
 use Rattle.rules.specs.declared.Role.{Role}
 use Rattle.rules.specs.declared.Role.TheVariants.{Failover, Following, Promoted}
-use Rattle.rules.specs.declared.Shown.TheVariants.{Nothing}
+use Rattle.std.specs.Prelude.{None}
 
 pub record Ledger (S : Setup) (h : History) : Type 0 where
   -- the k-th guest of a card's list is its guest on entry to epoch k
@@ -96,7 +96,7 @@ module _ (S : Setup) (h : History) (e : Ledger S h) (w : Whole h.pair) where
       go Promoted = turns_b _ _ _ refl refl refl e.arrived
   ledger_handle (BInt j) =
       unless _ _ UnknownOperation _ λ _.
-      pick_case (λ (t : Pair). Ledger S (after (BInt j) h (taken t Nothing))) (is_promoted h.pair.role) _ h.pair (λ _. still _ _ refl refl refl e.arrived) (λ _. e)
+      pick_case (λ (t : Pair). Ledger S (after (BInt j) h (taken t None))) (is_promoted h.pair.role) _ h.pair (λ _. still _ _ refl refl refl e.arrived) (λ _. e)
 
 -- ---- one event, and the tests in front of it, for whatever a history keeps
 

@@ -32,13 +32,10 @@ use Rattle.rules.specs.declared.Event.TheVariants.{BEnd, BStep}
 use Rattle.rules.specs.declared.Message.{Message}
 use Rattle.rules.specs.declared.Outcome.{Outcome}
 use Rattle.rules.specs.declared.Pair.{Pair}
-use Rattle.rules.specs.declared.Reading.TheVariants.{WellFormed}
 use Rattle.rules.specs.declared.Refusal.{Refusal}
 use Rattle.rules.specs.declared.Refusal.TheVariants.{BadProgram, EpochsUsedUp, Malformed, MustWait, OutOfTurn, Unsound}
 use Rattle.rules.specs.declared.Role.{Role}
 use Rattle.rules.specs.declared.Role.TheVariants.{Failover, Following, Promoted}
-use Rattle.rules.specs.declared.Shown.{Shown}
-use Rattle.rules.specs.declared.Shown.TheVariants.{Nothing}
 use Rattle.slots.proofs.Tests.{or_false}
 use Rattle.promises.proofs.Bytes.{stepped_well}
 use Rattle.promises.proofs.Flow.{Flow, count_58, count-two, flow_reached}
@@ -51,6 +48,8 @@ use Rattle.promises.proofs.Soundness.{reached-laid, reached-pair, reached-seen, 
 use Rattle.promises.proofs.Wires.{wires_epochs}
 use Rattle.promises.specs.Promises.{AllBSteps, IsBEnd, LinkFull, Takes, pair_after}
 use Rattle.promises.specs.Refusals.{Full, MayEnd, link_no_room}
+use Rattle.rules.specs.declared.RecordEntry.{RecordEntry}
+use Rattle.std.specs.Prelude.{Some, None, Option}
 
 -- ---- an event that is taken, from its bytes
 
@@ -59,7 +58,7 @@ unfolding refuse
 goes_on b why v q = rw (q, refuse)
 
 -- a well formed event on a sound pair under a program of 4N bytes is handled
-stepped-handled : (code : List ℕ) (s : Pair) (bytes : List ℕ) (ev : Event) → Whole s → length code ≡ 4 * s.count → read_event bytes ≡ WellFormed ev → malformed ev ≡ false → stepped code (laid s) bytes ≡ outcome (laid s) (stored (handle (setup_of code s) s ev))
+stepped-handled : (code : List ℕ) (s : Pair) (bytes : List ℕ) (ev : Event) → Whole s → length code ≡ 4 * s.count → read_event bytes ≡ Some ev → malformed ev ≡ false → stepped code (laid s) bytes ≡ outcome (laid s) (stored (handle (setup_of code s) s ev))
 unfolding step in_front
 stepped-handled code s bytes ev w l r m =
     stepped_well code (laid s) bytes ev r
@@ -68,7 +67,7 @@ stepped-handled code s bytes ev w l r m =
     (goes_on (malformed ev) Malformed _ m ∙ goes_on (not (sound s)) Unsound _ (ap not (whole-sound s w)) ∙ goes_on (not (eqb (length code) (4 * s.count))) BadProgram _ (ap not (eq-eqb (length code) (4 * s.count) l)))
 
 -- and is taken
-stepped-taken : (code : List ℕ) (s : Pair) (bytes : List ℕ) (ev : Event) (t : Pair) (o : Shown) → Whole s → length code ≡ 4 * s.count → read_event bytes ≡ WellFormed ev → malformed ev ≡ false → handle (setup_of code s) s ev ≡ taken t o
+stepped-taken : (code : List ℕ) (s : Pair) (bytes : List ℕ) (ev : Event) (t : Pair) (o : Option RecordEntry) → Whole s → length code ≡ 4 * s.count → read_event bytes ≡ Some ev → malformed ev ≡ false → handle (setup_of code s) s ev ≡ taken t o
     → (answer_number (stepped code (laid s) bytes).answer ≡ 0) × ((stepped code (laid s) bytes).pair ≡ laid t)
 unfolding outcome stored
 stepped-taken code s bytes ev t o w l r m q =
@@ -90,7 +89,7 @@ module _ (code : List ℕ) (l : ℕ) (g : good (under code l) ≡ true) where
 
   -- ---- a BEND is taken where B may end its epoch
 
-  bend-taken : (s : Pair) (v : ℕ) → Nearing s → MayEnd s → (t : Pair) × (handle (setup_of code s) s (BEnd v) ≡ taken t Nothing)
+  bend-taken : (s : Pair) (v : ℕ) → Nearing s → MayEnd s → (t : Pair) × (handle (setup_of code s) s (BEnd v) ≡ taken t None)
   unfolding handle ended setup_of
   bend-taken s v n m = (
     _,
@@ -100,7 +99,7 @@ module _ (code : List ℕ) (l : ℕ) (g : good (under code l) ≡ true) where
 
   -- ---- a BSTEP is taken where B may run, and brings it nearer
 
-  bstep-taken : (s : Pair) (v : ℕ) → Nearing s → idle s || complete s.limit s.b.guest ≡ false → (c : ℕ) × (o : Shown) × (handle (setup_of code s) s (BStep v) ≡ taken (after_b (setup_of code s) s c) o)
+  bstep-taken : (s : Pair) (v : ℕ) → Nearing s → idle s || complete s.limit s.b.guest ≡ false → (c : ℕ) × (o : Option RecordEntry) × (handle (setup_of code s) s (BStep v) ≡ taken (after_b (setup_of code s) s c) o)
   unfolding handle after_b setup_of
   bstep-taken s v n q =
       (_, _, goes_on _ OutOfTurn _ q ∙ goes_on _ BadProgram _ (rw n.setup ((good_setup (under code l) g).runs s.b.guest (subst (λ (T : Setup). s.b.guest.pc < T.count) n.setup n.whole.second.inside))))
@@ -126,7 +125,7 @@ module _ (code : List ℕ) (l : ℕ) (g : good (under code l) ≡ true) where
 
   at_once : (s : Pair) (steps : List (List ℕ)) (last : List ℕ) → IsBEnd last → Nearing s → MayEnd s → Ends s steps last
   unfolding Ends malformed
-  at_once s steps last b n m = let t = bend-taken s b.0 n m in (0, zero-le, ((stepped-taken code s last (BEnd b.0) t.0 Nothing n.whole (four s n) b.1 refl t.1).0, tt))
+  at_once s steps last b n m = let t = bend-taken s b.0 n m in (0, zero-le, ((stepped-taken code s last (BEnd b.0) t.0 None n.whole (four s n) b.1 refl t.1).0, tt))
 
   -- while B may run, its epoch has fewer than L instructions
   running : (s : Pair) → Nearing s → idle s || complete s.limit s.b.guest ≡ false → l ≤ s.b.guest.done + 0 → ⊥

@@ -1,7 +1,6 @@
 -- What a lone card can come to, one step further.
 use mathlib.Core.Bool.{Bool, ◌||◌, false, not, true}
 use mathlib.Core.List.{List, [], ◌++◌, ◌∷◌, append_assoc}
-use mathlib.Core.Option.{Option, none, some}
 use mathlib.Core.Path.{◌∙◌, ◌≡◌, ap, refl, sym}
 use Prim.Native.Nat.{ℕ}
 use lib.Dec.{eqb}
@@ -16,11 +15,10 @@ use Rattle.rules.specs.Program.{Setup, bad, exec}
 use Rattle.rules.specs.declared.Guest.{Guest}
 use Rattle.rules.specs.declared.Interrupt.{Interrupt}
 use Rattle.rules.specs.declared.RecordEntry.{RecordEntry}
-use Rattle.rules.specs.declared.Shown.{Shown}
-use Rattle.rules.specs.declared.Shown.TheVariants.{Entry, Nothing}
 use Rattle.slots.specs.Slots.{pick}
+use Rattle.std.specs.Prelude.{Option, Some, None}
 
-only-true {ℓ} : {X : Type ℓ} (b : Bool) (x : X) → b ≡ true → only b x ≡ some x
+only-true : {X : Type 0} (b : Bool) (x : X) → b ≡ true → only b x ≡ Some x
 unfolding only
 only-true b x h = rw (h, only)
 
@@ -29,42 +27,42 @@ lonely g is es = record { guest = g; buffer = is; shown = es }
 
 -- a lone card under S comes to c, by the steps `past` and then some more
 abbrev pub Possible : Setup → List LoneStep → Lone → Type 0
-Possible S past c = (more : List LoneStep) × (lone_steps S (some fresh_lone) (past ++ more) ≡ some c)
+Possible S past c = (more : List LoneStep) × (lone_steps S (Some fresh_lone) (past ++ more) ≡ Some c)
 
 steps_append : (S : Setup) (o : Option Lone) (ss ts : List LoneStep) → lone_steps S o (ss ++ ts) ≡ lone_steps S (lone_steps S o ss) ts
 unfolding lone_steps
 steps_append S o [] ts = refl
-steps_append S none (s ∷ ss) ts = sym (stuck ts)
+steps_append S None (s ∷ ss) ts = sym (stuck ts)
   where
-    stuck : (l : List LoneStep) → lone_steps S none l ≡ none
+    stuck : (l : List LoneStep) → lone_steps S None l ≡ None
     stuck [] = refl
     stuck (s ∷ l) = refl
-steps_append S (some c) (s ∷ ss) ts = steps_append S (lone_step S c s) ss ts
+steps_append S (Some c) (s ∷ ss) ts = steps_append S (lone_step S c s) ss ts
 
 module _ (S : Setup) (past : List LoneStep) (g : Guest) (buf : List Interrupt) (es : List RecordEntry) (p : Possible S past (lonely g buf es)) where
-  possible-step : (d : Lone) (st : LoneStep) → lone_step S (lonely g buf es) st ≡ some d → Possible S past d
+  possible-step : (d : Lone) (st : LoneStep) → lone_step S (lonely g buf es) st ≡ Some d → Possible S past d
   unfolding lone_steps
   possible-step d st e = (
     p.0 ++ (st ∷ []),
-    ap (lone_steps S (some fresh_lone)) (sym (append_assoc past p.0 (st ∷ []))) ∙ steps_append S (some fresh_lone) (past ++ p.0) (st ∷ []) ∙ ap (λ (o : Option Lone). lone_steps S o (st ∷ [])) p.1 ∙ e,
+    ap (lone_steps S (Some fresh_lone)) (sym (append_assoc past p.0 (st ∷ []))) ∙ steps_append S (Some fresh_lone) (past ++ p.0) (st ∷ []) ∙ ap (λ (o : Option Lone). lone_steps S o (st ∷ [])) p.1 ∙ e,
   )
 
   -- an instruction; what is started reaches its device
   pub possible-shown : (w : ℕ) → complete S.limit g ≡ false → bad S g ≡ false → Possible S past (lonely (exec S g w).guest buf (recorded es (exec S g w).shown))
   unfolding lone_step may_run recorded is_shown
   possible-shown w h k =
-      let o : Shown = (exec S g w).shown in
+      let o : Option RecordEntry = (exec S g w).shown in
       possible-step _ (instruction w (is_shown o))
       (only-true (may_run S g w (is_shown o)) _ (rw (h, k, not_or (is_shown o)))
-      ∙ ap (λ (l : List RecordEntry). some (lonely (exec S g w).guest buf l)) (recorded-shown o))
+      ∙ ap (λ (l : List RecordEntry). Some (lonely (exec S g w).guest buf l)) (recorded-shown o))
     where
       not_or : (b : Bool) → not b || b ≡ true
       not_or true = refl
       not_or false = refl
 
-      recorded-shown : (o : Shown) → pick (is_shown o) (recorded es o) es ≡ recorded es o
-      recorded-shown Nothing = refl
-      recorded-shown (Entry e) = refl
+      recorded-shown : (o : Option RecordEntry) → pick (is_shown o) (recorded es o) es ≡ recorded es o
+      recorded-shown None = refl
+      recorded-shown (Some e) = refl
 
   -- an instruction; what is started does not reach its device
   pub possible-hidden : (w : ℕ) → complete S.limit g ≡ false → bad S g ≡ false → Possible S past (lonely (exec S g w).guest buf es)

@@ -22,13 +22,12 @@ use Rattle.rules.specs.declared.RecordEntry.{RecordEntry}
 use Rattle.rules.specs.declared.Refusal.TheVariants.{BadProgram, Dead, EpochsUsedUp, MustWait, OutOfTurn, UnknownOperation}
 use Rattle.rules.specs.declared.Role.{Role}
 use Rattle.rules.specs.declared.Role.TheVariants.{Failover, Following, Promoted}
-use Rattle.rules.specs.declared.Shown.{Shown}
-use Rattle.rules.specs.declared.Shown.TheVariants.{Entry, Nothing}
 use Rattle.promises.proofs.Bytes.{first_kind, if_stepped}
 use Rattle.promises.specs.Promises.{NeverTwo}
+use Rattle.std.specs.Prelude.{Some, None, Option}
 
 -- nothing is shown
-nothing {ℓ} : {X : Type ℓ} (e : RecordEntry) → Nothing ≡ Entry e → X
+nothing {ℓ} : {X : Type ℓ} (e : RecordEntry) → None ≡ Some e → X
 nothing e q = absurd (let z : ◌≡◌ {A = ℕ} 0 1 = cc in omega arith)
 
 -- promoted: the first card has failed
@@ -47,7 +46,7 @@ module _ (S : Setup) (s : Pair) (w : Whole s) (e : RecordEntry) where
   Whose : Event → Type 0
   Whose ev = ((kind ev ≡ 1) × (is_failed s.phase ≡ false)) ⊎ ((kind ev ≡ 9) × (is_promoted s.role ≡ true) × (is_failed s.phase ≡ true))
 
-  shown-handle : (ev : Event) → IfTaken (λ t o. o ≡ Entry e → Whose ev) (handle S s ev)
+  shown-handle : (ev : Event) → IfTaken (λ t o. o ≡ Some e → Whose ev) (handle S s ev)
   unfolding Whose handle ended kind
   shown-handle (PStep v) = unless _ _ Dead _ λ q. unless _ _ OutOfTurn _ λ _. unless _ _ BadProgram _ λ _ z. inl (refl, q)
   shown-handle (PInt i) = unless _ _ Dead _ λ _. unless _ _ UnknownOperation _ λ _. nothing e
@@ -60,11 +59,11 @@ module _ (S : Setup) (s : Pair) (w : Whole s) (e : RecordEntry) where
   shown-handle (BStep v) =
       unless _ _ OutOfTurn _ λ _.
       unless _ _ BadProgram _ λ _.
-      pick_case (λ (o : Shown). o ≡ Entry e → Whose (BStep v)) (is_promoted s.role) (exec S s.b.guest (first (vals s.b.epoch s.inbox) v)).shown Nothing
+      pick_case (λ (o : Option RecordEntry). o ≡ Some e → Whose (BStep v)) (is_promoted s.role) (exec S s.b.guest (first (vals s.b.epoch s.inbox) v)).shown None
       (λ p _. inr (refl, p, promoted-failed s w p)) (λ _. nothing e)
   shown-handle (BEnd v) = unless _ _ OutOfTurn _ λ _. unless _ _ EpochsUsedUp _ λ _. go s.role
     where
-      go : (o : Role) → IfTaken (λ t o. o ≡ Entry e → Whose (BEnd v)) (ended s v o)
+      go : (o : Role) → IfTaken (λ t o. o ≡ Some e → Whose (BEnd v)) (ended s v o)
       go Following = unless _ _ MustWait _ λ _. nothing e
       go Failover = nothing e
       go Promoted = nothing e
@@ -100,11 +99,11 @@ unfolding outcome seen laid Whose
 never_two_lem =
     record {
       shows = λ code s bytes e.
-          if_stepped (λ (x : Outcome). x.shown ≡ Entry e → ((get_or bytes 0 0 ≡ 1) × (is_failed s.phase ≡ false)) ⊎ ((get_or bytes 0 0 ≡ 9) × (is_promoted s.role ≡ true) × (is_failed s.phase ≡ true))) code s bytes (λ why. nothing e)
+          if_stepped (λ (x : Outcome). x.shown ≡ Some e → ((get_or bytes 0 0 ≡ 1) × (is_failed s.phase ≡ false)) ⊎ ((get_or bytes 0 0 ≡ 9) × (is_promoted s.role ≡ true) × (is_failed s.phase ≡ true))) code s bytes (λ why. nothing e)
           λ ev r.
           if_apply _ code s ev λ m w.
-          if_stored (λ t o. o ≡ Entry e → ((kind ev ≡ 1) × (is_failed s.phase ≡ false)) ⊎ ((kind ev ≡ 9) × (is_promoted s.role ≡ true) × (is_failed s.phase ≡ true)))
-          (λ t o. o ≡ Entry e → ((get_or bytes 0 0 ≡ 1) × (is_failed s.phase ≡ false)) ⊎ ((get_or bytes 0 0 ≡ 9) × (is_promoted s.role ≡ true) × (is_failed s.phase ≡ true)))
+          if_stored (λ t o. o ≡ Some e → ((kind ev ≡ 1) × (is_failed s.phase ≡ false)) ⊎ ((kind ev ≡ 9) × (is_promoted s.role ≡ true) × (is_failed s.phase ≡ true)))
+          (λ t o. o ≡ Some e → ((get_or bytes 0 0 ≡ 1) × (is_failed s.phase ≡ false)) ⊎ ((get_or bytes 0 0 ≡ 9) × (is_promoted s.role ≡ true) × (is_failed s.phase ≡ true)))
           (λ t o f q. rw (← first_kind bytes ev r) (f q)) _ (shown-handle (setup_of code (seen s)) (seen s) w e ev);
       for_good = λ code s bytes q.
           if_stepped (λ (x : Outcome). is_failed x.pair.phase ≡ true) code s bytes (λ why. q)

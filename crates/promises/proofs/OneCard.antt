@@ -1,7 +1,6 @@
 -- Demand 3 over the model, with one lone history that only grows.
 use mathlib.Core.Bool.{false, true}
 use mathlib.Core.List.{List, [], ◌++◌, ◌∷◌, append_assoc, append-nil}
-use mathlib.Core.Option.{some}
 use mathlib.Core.Path.{◌∙◌, ◌≡◌, ap, refl, subst, sym}
 use borrow.Author.Tests.{not-false}
 use lib.Dec.{lit<}
@@ -28,6 +27,7 @@ use Rattle.promises.proofs.Ledger.{Ledger, feed_keeps, ledger_feed, ledger_fresh
 use Rattle.promises.proofs.LoneCard.{Possible, lonely}
 use Rattle.promises.proofs.Second.{keeps_bend, keeps_bint, keeps_bstep}
 use Rattle.promises.specs.Promises.{Agree, Demand3, OneCard}
+use Rattle.std.specs.Prelude.{Some}
 
 -- ---- every event keeps the invariant
 
@@ -87,7 +87,7 @@ module _ (S : Setup) where
 
   -- all that it took is past
   settle : (past : List LoneStep) (c : Lone) (p : Possible S past c) → Possible S (past ++ p.0) c
-  settle past c p = ([], ap (lone_steps S (some fresh_lone)) (append-nil (past ++ p.0)) ∙ p.1)
+  settle past c p = ([], ap (lone_steps S (Some fresh_lone)) (append-nil (past ++ p.0)) ∙ p.1)
 
   rebase : (past : List LoneStep) (h : History) (i : Inv S past h) → Inv S (past ++ newest past h i) h
   unfolding newest
@@ -127,7 +127,7 @@ module _ (S : Setup) where
   walk-append h t (ev ∷ evs) more = walk-append (feed S h ev) (next_stage h t ev) evs more
 
   -- demand 3 of what is known, where the lone card stands at the guest g with the buffer is
-  demanded : (h : History) (ss : List LoneStep) (g : Guest) (is : List Interrupt) → Ledger S h → lone_steps S (some fresh_lone) ss ≡ some (lonely g is h.shown) → Agree h.entered_p h.entered_b
+  demanded : (h : History) (ss : List LoneStep) (g : Guest) (is : List Interrupt) → Ledger S h → lone_steps S (Some fresh_lone) ss ≡ Some (lonely g is h.shown) → Agree h.entered_p h.entered_b
       → (is_failed h.pair.phase ≡ false → (g ≡ h.pair.p.guest) × (is ≡ h.pair.p.buffer)) → (is_promoted h.pair.role ≡ true → (g ≡ h.pair.b.guest) × (is ≡ h.pair.b.buffer)) → Demand3 S (λ x. x) (λ x. x) h ss
   demanded h ss g is e p a f s = record { epochs_p = e.first; epochs_b = e.second; agree = a; lone = lonely g is h.shown; possible = p; same_record = refl; first = f; second = s }
 

@@ -25,8 +25,6 @@ use Rattle.rules.specs.declared.Outcome.{Outcome}
 use Rattle.rules.specs.declared.Pair.{Pair}
 use Rattle.rules.specs.declared.Phase.{Phase}
 use Rattle.rules.specs.declared.Phase.TheVariants.{Failed, Running, Waiting}
-use Rattle.rules.specs.declared.Reading.{Reading}
-use Rattle.rules.specs.declared.Reading.TheVariants.{IllFormed, WellFormed}
 use Rattle.rules.specs.declared.Refusal.{Refusal}
 use Rattle.rules.specs.declared.Refusal.TheVariants.{BadFile, BadProgram, Dead, EpochsUsedUp, InboxFull, Malformed, MustWait, OutOfTurn, TooShort, UnknownOperation, Unsound}
 use Rattle.rules.specs.declared.Role.{Role}
@@ -35,6 +33,7 @@ use Rattle.slots.proofs.Tests.{and_true, or_false}
 use Rattle.promises.proofs.Ledger.{no_cons}
 use Rattle.promises.proofs.Runs.{made-bad, made-good}
 use Rattle.promises.specs.Refusals.{At, Broken, Comes, Dying, Formed, Full, MayEnd, Misformed, Refusals, SetUps, Unknown, Untimely, UsedUp, Waits, ack_dead, ack_none, bend_early, bend_last, bend_neither, bint_unknown, bstep_bad, bstep_done, bstep_idle, detect_again, detect_early, detect_in_flight, fail_dead, link_empty, link_no_room, pend_dead, pend_early, pend_last, pend_unacknowledged, pint_dead, pint_unknown, pstep_bad, pstep_dead, pstep_done, ptime_again, ptime_dead, ptime_early}
+use Rattle.std.specs.Prelude.{Some, None, Option}
 
 -- ---- why a verdict refuses
 
@@ -235,9 +234,9 @@ module _ (code : List ℕ) (s : Pair) (bytes : List ℕ) where
       by_verdict ev c (refused why) x = in_column ev c why x
       by_verdict ev c (taken t o) x = tt
 
-      go : (r : Reading) → read_event bytes ≡ r → Told Situation (apply_read code s r)
-      go IllFormed q = inl q
-      go (WellFormed ev) q =
+      go : (r : Option Event) → read_event bytes ≡ r → Told Situation (apply_read code s r)
+      go None q = inl q
+      go (Some ev) q =
           because Situation (malformed ev) Malformed _ (λ m. inr (ev, q, m)) λ m.
           because Situation (not (sound_pair s)) Unsound _ (λ n. ((ev, q, m), not-true (sound_pair s) n)) λ n.
           let k = not-false (sound_pair s) n in

@@ -15,18 +15,15 @@ use Rattle.rules.specs.Pair.{fresh_pair, setup_of}
 use Rattle.rules.specs.PairSlots.{apply, laid, laid_card, made, outcome, seen, seen_card, sound_pair, stored, tight_card, tight_pair, zero_pair}
 use Rattle.rules.specs.Program.{Setup, good, under}
 use Rattle.rules.specs.Sound.{sound, sound_limits}
-use Rattle.rules.specs.declared.Answer.TheVariants.{Refused, Taken}
 use Rattle.rules.specs.declared.Event.{Event}
 use Rattle.rules.specs.declared.Outcome.{Outcome}
-use Rattle.rules.specs.declared.Reading.{Reading}
-use Rattle.rules.specs.declared.Reading.TheVariants.{IllFormed, WellFormed}
 use Rattle.rules.specs.declared.Refusal.{Refusal}
 use Rattle.rules.specs.declared.Refusal.TheVariants.{BadProgram, Malformed, Unsound}
-use Rattle.rules.specs.declared.Shown.TheVariants.{Nothing}
 use Rattle.slots.specs.Slots.{entries, every, folded, padded}
 use Rattle.promises.proofs.Bytes.{first_kind, stepped_ill, stepped_well}
 use Rattle.promises.proofs.Faithful.{faithful}
 use Rattle.promises.specs.Promises.{grown, is_taken, opened, ran}
+use Rattle.std.specs.Prelude.{Some, None, Option, Ok, Err}
 
 -- ---- one event
 
@@ -42,9 +39,9 @@ grown-after k h ev (taken t o) q = ap (λ (n : ℕ). record { pair = t; shown = 
 
 -- ---- the events that the bytes say; bytes that say none are passed over
 
-heard_in : Reading → List Event → List Event
-heard_in (WellFormed ev) evs = ev ∷ evs
-heard_in IllFormed evs = evs
+heard_in : Option Event → List Event → List Event
+heard_in (Some ev) evs = ev ∷ evs
+heard_in None evs = evs
 
 pub events_in : List (List ℕ) → List Event
 events_in [] = []
@@ -55,9 +52,9 @@ unfolding events_in heard_in
 events_in_append [] more = refl
 events_in_append (bytes ∷ evs) more = go (read_event bytes) (events_in_append evs more)
   where
-    go : (r : Reading) → events_in (evs ++ more) ≡ events_in evs ++ events_in more → heard_in r (events_in (evs ++ more)) ≡ heard_in r (events_in evs) ++ events_in more
-    go (WellFormed ev) q = ap (λ (l : List Event). ev ∷ l) q
-    go IllFormed q = q
+    go : (r : Option Event) → events_in (evs ++ more) ≡ events_in evs ++ events_in more → heard_in r (events_in (evs ++ more)) ≡ heard_in r (events_in evs) ++ events_in more
+    go (Some ev) q = ap (λ (l : List Event). ev ∷ l) q
+    go None q = q
 
 module _ (S : Setup) where
   -- one after the other
@@ -68,9 +65,9 @@ module _ (S : Setup) where
   unfolding fed heard_in run_stored feed_stored
   fed_heard h bytes evs = go (read_event bytes) refl
     where
-      go : (r : Reading) → read_event bytes ≡ r → run_stored S (grown (get_or bytes 0 0) h (stepped S.code h.pair bytes)) evs ≡ run_stored S h (heard_in r evs)
-      go IllFormed q = ap (λ (x : History). run_stored S x evs) (ap (grown (get_or bytes 0 0) h) (stepped_ill S.code h.pair bytes q) ∙ grown-refused (get_or bytes 0 0) h Malformed)
-      go (WellFormed ev) q = ap (λ (x : History). run_stored S x evs) (ap (grown (get_or bytes 0 0) h) (stepped_well S.code h.pair bytes ev q) ∙ grown-after (get_or bytes 0 0) h ev (apply S.code h.pair ev) (first_kind bytes ev q))
+      go : (r : Option Event) → read_event bytes ≡ r → run_stored S (grown (get_or bytes 0 0) h (stepped S.code h.pair bytes)) evs ≡ run_stored S h (heard_in r evs)
+      go None q = ap (λ (x : History). run_stored S x evs) (ap (grown (get_or bytes 0 0) h) (stepped_ill S.code h.pair bytes q) ∙ grown-refused (get_or bytes 0 0) h Malformed)
+      go (Some ev) q = ap (λ (x : History). run_stored S x evs) (ap (grown (get_or bytes 0 0) h) (stepped_well S.code h.pair bytes ev q) ∙ grown-after (get_or bytes 0 0) h ev (apply S.code h.pair ev) (first_kind bytes ev q))
 
   fed_all : (h : History) (evs : List (List ℕ)) → folded fed h evs ≡ run_stored S h (events_in evs)
   unfolding folded events_in run_stored
@@ -79,11 +76,11 @@ module _ (S : Setup) where
 
 -- ---- set-up
 
-pub made-good : (S : Setup) → good S ≡ true → made S ≡ record { answer = Taken; pair = laid (fresh_pair S); shown = Nothing }
+pub made-good : (S : Setup) → good S ≡ true → made S ≡ record { answer = Ok tt; pair = laid (fresh_pair S); shown = None }
 unfolding made set_up refuse stored outcome
 made-good S q = rw (q, refuse)
 
-pub made-bad : (S : Setup) → good S ≡ false → made S ≡ record { answer = Refused BadProgram; pair = zero_pair; shown = Nothing }
+pub made-bad : (S : Setup) → good S ≡ false → made S ≡ record { answer = Err BadProgram; pair = zero_pair; shown = None }
 unfolding made set_up refuse stored outcome
 made-bad S q = rw (q, refuse)
 

@@ -8,7 +8,7 @@ use native.Mathlib.Nat.{le_refl}
 use native.Mathlib.Omega.{arith}
 use Rattle.rules.proofs.Choices.{and_not_other, clash, nor_other, pick_case}
 use Rattle.rules.proofs.Lists.{All, all_left}
-use Rattle.rules.proofs.Messages.{Some, Without, drop_epoch-left, epoch_of, gathered_left, ints-drop_val}
+use Rattle.rules.proofs.Messages.{NonEmpty, Without, drop_epoch-left, epoch_of, gathered_left, ints-drop_val}
 use Rattle.rules.proofs.PairKept.{after_b}
 use Rattle.rules.proofs.PairWhole.{Whole}
 use Rattle.rules.proofs.Verdicts.{unless}
@@ -32,8 +32,6 @@ use Rattle.rules.specs.declared.Ran.{Ran}
 use Rattle.rules.specs.declared.Refusal.TheVariants.{BadProgram, EpochsUsedUp, MustWait, OutOfTurn, UnknownOperation}
 use Rattle.rules.specs.declared.Role.{Role}
 use Rattle.rules.specs.declared.Role.TheVariants.{Failover, Following, Promoted}
-use Rattle.rules.specs.declared.Shown.{Shown}
-use Rattle.rules.specs.declared.Shown.TheVariants.{Nothing}
 use Rattle.slots.proofs.Tests.{or_false}
 use Rattle.slots.specs.Slots.{pick}
 use Rattle.promises.proofs.Follow.{Able, Post, act, clock_some, first_some, follow_epoch, move, sent, turn, unread-left}
@@ -44,6 +42,8 @@ use Rattle.promises.proofs.Order.{ends_below, order-after, past_of}
 use Rattle.promises.proofs.Outstanding.{possible-failover, reached-failover}
 use Rattle.promises.proofs.Trail.{Level, Next, Trail, acts, next_move, there, turns}
 use Rattle.promises.proofs.Wires.{newer_without, wires_turn, wires_unread}
+use Rattle.rules.specs.declared.RecordEntry.{RecordEntry}
+use Rattle.std.specs.Prelude.{None, Option}
 
 module _ (S : Setup) (past : List LoneStep) (h : History) (e : Ledger S h) (w : Whole h.pair) where
   -- level with the first card: this is the failover epoch, and all has arrived
@@ -69,17 +69,17 @@ module _ (S : Setup) (past : List LoneStep) (h : History) (e : Ledger S h) (w : 
 
   -- ---- BSTEP
 
-  stepped_to : ℕ → Shown → History
+  stepped_to : ℕ → Option RecordEntry → History
   stepped_to v o = after (BStep v) h (taken (after_b S h.pair (first (vals h.pair.b.epoch h.pair.inbox) v)) o)
 
   -- the link has no message of B's epoch, so that the clock and what is left are those of the inbox
-  behind-step : (v : ℕ) → CoreOf S past h → Able S act (post_of h) → Trail S (move S act (post_of h)) h.pair.p h.pair.phase h.entered_b h.entered_p → CoreOf S past (stepped_to v Nothing)
+  behind-step : (v : ℕ) → CoreOf S past h → Able S act (post_of h) → Trail S (move S act (post_of h)) h.pair.p h.pair.phase h.entered_b h.entered_p → CoreOf S past (stepped_to v None)
   unfolding stepped_to after_b after kind recorded noted only on_b ran_on move
   behind-step v k l t =
       let b : Card = h.pair.b in
       let inbox : List Message = h.pair.inbox in
       let same = (gathered_left b.epoch inbox h.pair.link (newer_without b.epoch h.pair.link k.wires.newer)).0 in
-      let here : (at_time S b.guest ≡ true → Some (vals b.epoch inbox)) = λ q. subst Some same (l.2 q) in
+      let here : (at_time S b.guest ≡ true → NonEmpty (vals b.epoch inbox)) = λ q. subst NonEmpty same (l.2 q) in
       record {
         trail =
             subst (λ (u : Post). Trail S u h.pair.p h.pair.phase h.entered_b h.entered_p)
@@ -91,7 +91,7 @@ module _ (S : Setup) (past : List LoneStep) (h : History) (e : Ledger S h) (w : 
         own = k.own;
       }
 
-  ahead_step : (v : ℕ) → complete S.limit h.pair.b.guest ≡ false → bad S h.pair.b.guest ≡ false → Ahead S past h → Ahead S past (stepped_to v Nothing)
+  ahead_step : (v : ℕ) → complete S.limit h.pair.b.guest ≡ false → bad S h.pair.b.guest ≡ false → Ahead S past h → Ahead S past (stepped_to v None)
   unfolding stepped_to after_b after kind recorded noted only on_b ran_on unread
   ahead_step v n d a =
       let b : Card = h.pair.b in
@@ -116,14 +116,14 @@ module _ (S : Setup) (past : List LoneStep) (h : History) (e : Ledger S h) (w : 
       unless _ _ OutOfTurn _ λ q₁.
       unless _ _ BadProgram _ λ q₂.
       let a = or_false (idle h.pair) (complete S.limit h.pair.b.guest) q₁ in
-      pick_case (λ (o : Shown). Inv S past (stepped_to v o)) (is_promoted h.pair.role) (exec S h.pair.b.guest (first (vals h.pair.b.epoch h.pair.inbox) v)).shown Nothing
+      pick_case (λ (o : Option RecordEntry). Inv S past (stepped_to v o)) (is_promoted h.pair.role) (exec S h.pair.b.guest (first (vals h.pair.b.epoch h.pair.inbox) v)).shown None
       (λ p. alone (alone_step v a.1 q₂ (promoted S past h i p)))
       (λ p. go i p a.0 a.1 q₂)
     where
-      go : Inv S past h → is_promoted h.pair.role ≡ false → idle h.pair ≡ false → complete S.limit h.pair.b.guest ≡ false → bad S h.pair.b.guest ≡ false → Inv S past (stepped_to v Nothing)
+      go : Inv S past h → is_promoted h.pair.role ≡ false → idle h.pair ≡ false → complete S.limit h.pair.b.guest ≡ false → bad S h.pair.b.guest ≡ false → Inv S past (stepped_to v None)
       go (behind k) p z n d = by_next (next_move S (post_of h) h.pair.p h.pair.phase h.entered_b h.entered_p k.trail)
         where
-          by_next : Next S (post_of h) h.pair.p h.pair.phase h.entered_b h.entered_p → Inv S past (stepped_to v Nothing)
+          by_next : Next S (post_of h) h.pair.p h.pair.phase h.entered_b h.entered_p → Inv S past (stepped_to v None)
           by_next (there l q) = ahead (ahead_step v n d (level_ahead k l q))
           by_next (acts l t) = behind (behind-step v k l t)
           by_next (turns l t) = clash (rw (z, n)) l.0
@@ -137,17 +137,17 @@ module _ (S : Setup) (past : List LoneStep) (h : History) (e : Ledger S h) (w : 
   turn_g v = turned (idle h.pair) h.pair.b.epoch h.pair.b.guest h.pair.inbox v
 
   turned_to : ℕ → Role → History
-  turned_to v o = after (BEnd v) h (taken (on_b h.pair (enters h.pair.b (turn_g v)) o (drop_epoch h.pair.b.epoch h.pair.inbox)) Nothing)
+  turned_to v o = after (BEnd v) h (taken (on_b h.pair (enters h.pair.b (turn_g v)) o (drop_epoch h.pair.b.epoch h.pair.inbox)) None)
 
-  turned_same : (v : ℕ) → Without h.pair.b.epoch h.pair.link → (idle h.pair ≡ false → Some (tmes h.pair.b.epoch (h.pair.inbox ++ h.pair.link)))
+  turned_same : (v : ℕ) → Without h.pair.b.epoch h.pair.link → (idle h.pair ≡ false → NonEmpty (tmes h.pair.b.epoch (h.pair.inbox ++ h.pair.link)))
       → turned (idle h.pair) h.pair.b.epoch h.pair.b.guest (h.pair.inbox ++ h.pair.link) 0 ≡ turn_g v
   unfolding turned turn_g
   turned_same v off sent =
       let b : Card = h.pair.b in
       let l = gathered_left b.epoch h.pair.inbox h.pair.link off in
-      go (idle h.pair) l.1 l.2 (λ q. subst Some l.2 (sent q))
+      go (idle h.pair) l.1 l.2 (λ q. subst NonEmpty l.2 (sent q))
     where
-      go : (i : Bool) → ints h.pair.b.epoch (h.pair.inbox ++ h.pair.link) ≡ ints h.pair.b.epoch h.pair.inbox → tmes h.pair.b.epoch (h.pair.inbox ++ h.pair.link) ≡ tmes h.pair.b.epoch h.pair.inbox → (i ≡ false → Some (tmes h.pair.b.epoch h.pair.inbox))
+      go : (i : Bool) → ints h.pair.b.epoch (h.pair.inbox ++ h.pair.link) ≡ ints h.pair.b.epoch h.pair.inbox → tmes h.pair.b.epoch (h.pair.inbox ++ h.pair.link) ≡ tmes h.pair.b.epoch h.pair.inbox → (i ≡ false → NonEmpty (tmes h.pair.b.epoch h.pair.inbox))
           → pick i h.pair.b.guest (boundary (ints h.pair.b.epoch (h.pair.inbox ++ h.pair.link)) (first (tmes h.pair.b.epoch (h.pair.inbox ++ h.pair.link)) 0) h.pair.b.guest)
           ≡ pick i h.pair.b.guest (boundary (ints h.pair.b.epoch h.pair.inbox) (first (tmes h.pair.b.epoch h.pair.inbox) v) h.pair.b.guest)
       go true x y z = refl
@@ -260,7 +260,7 @@ module _ (S : Setup) (past : List LoneStep) (h : History) (e : Ledger S h) (w : 
   unfolding handle after kind recorded noted only on_b buffers
   keeps_bint j y i =
       unless _ _ UnknownOperation _ λ q.
-      pick_case (λ (t : Pair). Inv S past (after (BInt j) h (taken t Nothing))) (is_promoted h.pair.role) (on_b h.pair (buffers h.pair.b j) h.pair.role h.pair.inbox) h.pair
+      pick_case (λ (t : Pair). Inv S past (after (BInt j) h (taken t None))) (is_promoted h.pair.role) (on_b h.pair (buffers h.pair.b j) h.pair.role h.pair.inbox) h.pair
       (λ p.
       let a : Alone S past h = promoted S past h i p in
       alone (record { role = a.role; stopped = a.stopped; rest = a.rest; entered = a.entered; own = own-int S past h.pair.b h.shown j y (and_not_other (is_promoted h.pair.role) (awaited h.pair.b j.op) q p) a.own }))

@@ -25,7 +25,6 @@ use Rattle.rules.specs.Sound.{unacknowledged}
 use Rattle.rules.specs.declared.Event.{Event}
 use Rattle.rules.specs.declared.Outcome.{Outcome}
 use Rattle.rules.specs.declared.Pair.{Pair}
-use Rattle.rules.specs.declared.Shown.TheVariants.{Nothing}
 use Rattle.slots.specs.Slots.{entries, padded}
 use Rattle.promises.proofs.Bytes.{if_stepped}
 use Rattle.promises.proofs.OneCard.{stage}
@@ -33,6 +32,7 @@ use Rattle.promises.proofs.Refusals.{refusals}
 use Rattle.promises.proofs.Runs.{events_in, made-bad, made-good, ran-bad, ran-good}
 use Rattle.promises.specs.Promises.{AtMost58, NoneInFront, Soundness, pair_after}
 use Rattle.promises.specs.Refusals.{At, Broken, Formed, bstep_bad, pstep_bad}
+use Rattle.std.specs.Prelude.{None}
 
 -- ---- along a run
 
@@ -96,7 +96,7 @@ soundness =
       accepted = λ s z h. sym (laid-seen-pair s z (sound-tight s h));
       fits = λ code s ev m o h f q. seen-laid-pair m (whole-fits m (if_verdict (λ t o. Whole t) _ m o (whole-seen code s ev h f) q));
       refused = λ code s bytes.
-          if_stepped (λ (x : Outcome). (answer_number x.answer ≡ 0 → ⊥) → (x.pair ≡ s) × (x.shown ≡ Nothing)) code s bytes (λ _ _. (refl, refl))
+          if_stepped (λ (x : Outcome). (answer_number x.answer ≡ 0 → ⊥) → (x.pair ≡ s) × (x.shown ≡ None)) code s bytes (λ _ _. (refl, refl))
           λ ev _. if_any _ (λ t o q. absurd (q (taken-zero refl))) (apply code s ev);
     }
 

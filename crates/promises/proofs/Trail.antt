@@ -7,7 +7,7 @@ use native.Mathlib.Nat.{le_refl}
 use native.Mathlib.Omega.{arith}
 use Rattle.rules.proofs.Choices.{and_right, by_cases, pick_case, pick-false, pick_true}
 use Rattle.rules.proofs.Lists.{All, all_append, all_map}
-use Rattle.rules.proofs.Messages.{Holds, Some, Without, drop_val-last, end_holds, epoch_of, gathered_append, gathered_none, int_holds, part_drop_epoch, tme_holds, val_holds}
+use Rattle.rules.proofs.Messages.{Holds, NonEmpty, Without, drop_val-last, end_holds, epoch_of, gathered_append, gathered_none, int_holds, part_drop_epoch, tme_holds, val_holds}
 use Rattle.rules.proofs.Parts.{part_all}
 use Rattle.rules.specs.Boundary.{boundary}
 use Rattle.rules.specs.Events.{sends, turned, unread}
@@ -104,7 +104,7 @@ module _ (S : Setup) where
 
   ran_able : (t : Post) (c : Card) (f : Phase) (w : ℕ) → Level t c f → complete S.limit c.guest ≡ false → Able S act (add (sends S c w) t)
   unfolding add sends
-  ran_able t c f w h n = rw (h.epoch, h.guest) (h.awake, n, λ q. subst Some (sym (ran-vals c t.msgs w h.no_vals q)) tt)
+  ran_able t c f w h n = rw (h.epoch, h.guest) (h.awake, n, λ q. subst NonEmpty (sym (ran-vals c t.msgs w h.no_vals q)) tt)
 
   -- what the end that it sends leaves to be read
   end_reads : (c : Card) (ms : List Message) → (ints c.epoch (ms ++ (end c.epoch ∷ [])) ≡ ints c.epoch ms) × (tmes c.epoch (ms ++ (end c.epoch ∷ [])) ≡ tmes c.epoch ms)
@@ -187,7 +187,7 @@ module _ (S : Setup) where
 
   end_able : (t : Post) (c : Card) (w : ℕ) → Level t c (Waiting w) → complete S.limit c.guest ≡ true → Able S turn (add (end c.epoch ∷ []) t)
   unfolding add
-  end_able t c w h n = rw (h.epoch, h.guest, n) (and_right (not t.idle) false refl, λ _. subst Some (sym ((end_reads c t.msgs).1 ∙ h.clocks)) tt)
+  end_able t c w h n = rw (h.epoch, h.guest, n) (and_right (not t.idle) false refl, λ _. subst NonEmpty (sym ((end_reads c t.msgs).1 ∙ h.clocks)) tt)
 
   pub trail_end : (s : Post) (c : Card) (eb ep : List Guest) (w : ℕ) → Trail s c (Waiting w) eb ep → complete S.limit c.guest ≡ true → All (λ m. epoch_of m ≤ c.epoch.0) s.msgs
       → Trail (add (end c.epoch ∷ []) s) (enters c (boundary c.buffer w c.guest)) Running eb (ep ++ (boundary c.buffer w c.guest ∷ []))

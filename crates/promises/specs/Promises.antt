@@ -1,7 +1,6 @@
 -- What is promised of the pair, from an event's bytes to the outcome. Each statement stands under the sentence that it makes exact.
 -- `stepped` and `made` are what the code's contracts cite; all is proved in proofs/Promises.antt.
 use Rattle.std.specs.Prelude.{Bool, ◌&&◌, false, true, List, [], ◌++◌, ◌∷◌, ◌⊎◌, ◌≡◌, ◌≤◌, ℕ, eqb, get_or, length, take}
-use Rattle.std.proofs.Math.Option.{some}
 use Rattle.rules.specs.Bytes.{read_event, stepped}
 use Rattle.rules.specs.Events.{handle, malformed, step, taken}
 use Rattle.rules.specs.GuestSlots.{laid_guest, zero_interrupt}
@@ -13,27 +12,24 @@ use Rattle.rules.specs.PairKept.{Sized}
 use Rattle.rules.specs.PairSlots.{answer_number, apply, laid, made, seen, sound_pair, stored}
 use Rattle.rules.specs.Program.{Setup, under}
 use Rattle.rules.specs.Sound.{sound, unacknowledged}
-use Rattle.rules.specs.declared.Answer.{Answer}
-use Rattle.rules.specs.declared.Answer.TheVariants.{Refused, Taken}
 use Rattle.rules.specs.declared.Event.{Event}
 use Rattle.rules.specs.declared.Event.TheVariants.{BEnd, BStep}
 use Rattle.rules.specs.declared.Guest.{Guest}
 use Rattle.rules.specs.declared.Interrupt.{Interrupt}
 use Rattle.rules.specs.declared.Outcome.{Outcome}
 use Rattle.rules.specs.declared.Pair.{Pair}
-use Rattle.rules.specs.declared.Reading.TheVariants.{WellFormed}
 use Rattle.rules.specs.declared.RecordEntry.{RecordEntry}
-use Rattle.rules.specs.declared.Shown.{Shown}
-use Rattle.rules.specs.declared.Shown.TheVariants.{Entry, Nothing}
 use Rattle.slots.specs.Slots.{folded, padded}
 use Rattle.promises.specs.Refusals.{Refusals, SetUps}
+use Rattle.rules.specs.Answer.{Answer}
+use Rattle.std.specs.Prelude.{Option, Some, None, Ok, Err}
 
 -- ---- runs
 
 -- the answer is 0
 unfoldable pub is_taken : Answer → Bool
-is_taken Taken = true
-is_taken (Refused why) = false
+is_taken (Ok tt) = true
+is_taken (Err why) = false
 
 -- a history after the outcome of one more event of kind k: PEND (kind 4) enters P's next epoch, BEND (kind 10) B's
 unfoldable pub grown : ℕ → History → Outcome → History
@@ -76,7 +72,7 @@ pub record Demand3 (S : Setup) (lays : Guest → Guest) (fills : List Interrupt 
   pub agree : Agree h.entered_p h.entered_b
   -- "At every moment the devices' record is one that a single card could have left under the lone-card rules"
   pub lone : Lone
-  pub possible : lone_steps S (some fresh_lone) steps ≡ some lone
+  pub possible : lone_steps S (Some fresh_lone) steps ≡ Some lone
   pub same_record : lone.shown ≡ h.shown
   -- "That card's guest is the first card's until the stop and the second's from promotion on", and so is its buffer
   pub first : is_failed h.pair.phase ≡ false → (lays lone.guest ≡ h.pair.p.guest) × (fills lone.buffer ≡ h.pair.p.buffer)
@@ -91,7 +87,7 @@ pub record OneCard {E : Type 0} (S : Setup) (lays : Guest → Guest) (fills : Li
 -- "Two cards driving devices at once is no product of theirs, ever.": of any pair, any bytes, any program
 pub record NeverTwo : Type 0 where
   -- what shows is P's (PSTEP) before its stop, or B's (BSTEP) after it, once B is promoted
-  pub shows : (code : List ℕ) (s : Pair) (bytes : List ℕ) (e : RecordEntry) → (stepped code s bytes).shown ≡ Entry e
+  pub shows : (code : List ℕ) (s : Pair) (bytes : List ℕ) (e : RecordEntry) → (stepped code s bytes).shown ≡ Some e
       → ((get_or bytes 0 0 ≡ 1) × (is_failed s.phase ≡ false)) ⊎ ((get_or bytes 0 0 ≡ 9) × (is_promoted s.role ≡ true) × (is_failed s.phase ≡ true))
   -- "P halts for good"
   pub for_good : (code : List ℕ) (s : Pair) (bytes : List ℕ) → is_failed s.phase ≡ true → is_failed (stepped code s bytes).pair.phase ≡ true
@@ -107,9 +103,9 @@ pub record Soundness : Type 0 where
   pub zero_slots : (code : List ℕ) (l : ℕ) (evs : List (List ℕ)) → laid (seen (pair_after code l evs)) ≡ pair_after code l evs
   pub accepted : (s : Pair) → Sized s → sound_pair s ≡ true → laid (seen s) ≡ s
   -- nothing that an event adds is cut off: the pair that it leaves fits its slots
-  pub fits : (code : List ℕ) (s : Pair) (ev : Event) (m : Pair) (o : Shown) → sound_pair s ≡ true → malformed ev ≡ false → handle (setup_of code s) (seen s) ev ≡ taken m o → seen (laid m) ≡ m
+  pub fits : (code : List ℕ) (s : Pair) (ev : Event) (m : Pair) (o : Option RecordEntry) → sound_pair s ≡ true → malformed ev ≡ false → handle (setup_of code s) (seen s) ev ≡ taken m o → seen (laid m) ≡ m
   -- "A refused event hands the pair back as it came", and shows nothing: any pair, any bytes, any program
-  pub refused : (code : List ℕ) (s : Pair) (bytes : List ℕ) → (answer_number (stepped code s bytes).answer ≡ 0 → ⊥) → ((stepped code s bytes).pair ≡ s) × ((stepped code s bytes).shown ≡ Nothing)
+  pub refused : (code : List ℕ) (s : Pair) (bytes : List ℕ) → (answer_number (stepped code s bytes).answer ≡ 0 → ⊥) → ((stepped code s bytes).pair ≡ s) × ((stepped code s bytes).shown ≡ None)
 
 -- ---- 01's other claims
 
@@ -119,11 +115,11 @@ AtMost58 = (code : List ℕ) (l : ℕ) (evs : List (List ℕ)) → unacknowledge
 
 -- the bytes of a BSTEP, of a BEND, with any word
 abbrev pub IsBStep : List ℕ → Type 0
-IsBStep bytes = (w : ℕ) × (read_event bytes ≡ WellFormed (BStep w))
+IsBStep bytes = (w : ℕ) × (read_event bytes ≡ Some (BStep w))
 
 -- the bytes of a BEND
 abbrev pub IsBEnd : List ℕ → Type 0
-IsBEnd bytes = (w : ℕ) × (read_event bytes ≡ WellFormed (BEnd w))
+IsBEnd bytes = (w : ℕ) × (read_event bytes ≡ Some (BEnd w))
 
 -- each of them is a BSTEP
 abbrev pub AllBSteps : List (List ℕ) → Type 0
@@ -153,7 +149,7 @@ NoneInFront =
 -- demand 3 and soundness, and that the pair in memory does the same
 pub record Model : Type 0 where
   pub one_card : (S : Setup) → OneCard S (λ g. g) (λ is. is) (run S (fresh_history S))
-  pub sound_kept : (code : List ℕ) (s : Pair) (ev : Event) (t : Pair) (o : Shown) → step code s ev ≡ taken t o → sound t ≡ true
+  pub sound_kept : (code : List ℕ) (s : Pair) (ev : Event) (t : Pair) (o : Option RecordEntry) → step code s ev ≡ taken t o → sound t ≡ true
   -- the pair in memory does what the model does, and answers every event so
   pub faithful : (S : Setup) (evs : List Event) → run_stored S (fresh_stored S) evs ≡ laid_history (run S (fresh_history S) evs)
   pub answers : (S : Setup) (evs : List Event) (ev : Event) → apply S.code (run_stored S (fresh_stored S) evs).pair ev ≡ stored (step S.code (run S (fresh_history S) evs).pair ev)

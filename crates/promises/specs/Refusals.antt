@@ -13,12 +13,12 @@ use Rattle.rules.specs.declared.Event.{Event}
 use Rattle.rules.specs.declared.Event.TheVariants.{Ack, BEnd, BInt, BStep, Detect, Fail, Link, PEnd, PInt, PStep, PTime}
 use Rattle.rules.specs.declared.Interrupt.{Interrupt}
 use Rattle.rules.specs.declared.Pair.{Pair}
-use Rattle.rules.specs.declared.Reading.TheVariants.{IllFormed, WellFormed}
 use Rattle.rules.specs.declared.Role.TheVariants.{Following}
+use Rattle.std.specs.Prelude.{Some, None}
 
 -- The bytes say the event ev, and it comes to its own column: not malformed (1), the pair sound (11), the program 4N bytes long (8)
 pub record Comes (code : List ℕ) (s : Pair) (bytes : List ℕ) (ev : Event) : Type 0 where
-  pub read : read_event bytes ≡ WellFormed ev
+  pub read : read_event bytes ≡ Some ev
   pub formed : malformed ev ≡ false
   pub sound : sound_pair s ≡ true
   pub fits : length code ≡ 4 * s.count
@@ -89,11 +89,11 @@ pub data Broken (code : List ℕ) (s : Pair) : Event → Type 0 where
 
 -- 1 "malformed event, or not 8 bytes"
 abbrev pub Misformed : List ℕ → Type 0
-Misformed bytes = (read_event bytes ≡ IllFormed) ⊎ ((ev : Event) × (read_event bytes ≡ WellFormed ev) × (malformed ev ≡ true))
+Misformed bytes = (read_event bytes ≡ None) ⊎ ((ev : Event) × (read_event bytes ≡ Some ev) × (malformed ev ≡ true))
 
 -- the bytes say an event that is not malformed
 abbrev pub Formed : List ℕ → Type 0
-Formed bytes = (ev : Event) × (read_event bytes ≡ WellFormed ev) × (malformed ev ≡ false)
+Formed bytes = (ev : Event) × (read_event bytes ≡ Some ev) × (malformed ev ≡ false)
 
 -- the event comes to its column, and this is its situation
 abbrev pub At : List ℕ → Pair → List ℕ → (Event → Type 0) → Type 0

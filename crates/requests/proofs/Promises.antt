@@ -8,6 +8,8 @@ use borrow.Author.Tests.{le-ltb, lt-ltb, ltb-true}
 use lib.Dec.{ltb}
 use lib.ListN.{length, take}
 use Rattle.slots.specs.Slots.{pick}
+use Rattle.text.specs.Spelled.{Spelled}
+use Rattle.text.specs.declared.Text.{Text}
 use Rattle.words.proofs.Wrote.{wrote-length, wrote_there}
 use Rattle.requests.specs.Answers.{Answered, Answers, Spells, whole_in}
 use Rattle.requests.specs.Promises.{NoPart, WholeLine}
@@ -27,21 +29,21 @@ whole-line w t b c e r answers h = ap (λ (k : ℕ). take k e) (answers.counts �
 pub no_part : NoPart
 no_part w t b c e r answers h = answers.counts ∙ fits_not (length t) w.line h
 
--- a line that was spelled up to a place before the end, or to no such place
-module _ {w : Answered} {t b c e : List ℕ} {r : ℕ} (s : Spells w t b c e r) where
-  same : length e ≡ length t
-  same = wrote-length s.spelled.wrote
+-- a line that was put into a text of which nothing was spelled: up to a place before the end, or to no such place
+module _ {w : Answered} {t e : Text} {b c before after : List ℕ} (s : Spells w t b c e) (is : t.bytes.now ≡ before) (empty : t.at ≡ 0) (leaves : e.bytes.now ≡ after) where
+  there : Spelled before 0 w.line after e.at
+  there = rw (is, empty, leaves) at s.puts.spelled
 
-  pub is_whole : r < length e → Answers w t b c e r
+  pub is_whole : e.at < length before → Answers w before b c after e.at
   is_whole h =
-      let k : r ≡ length w.line = omega (arith, same, s.spelled.behind) in
-      record { wrote = s.spelled.wrote; counts = k ∙ sym (fits (length t) w.line (omega (arith, same))); leaves_b = s.leaves_b; leaves_c = s.leaves_c }
+      let k : e.at ≡ length w.line = omega (arith, there.behind) in
+      record { wrote = there.wrote; counts = k ∙ sym (fits (length before) w.line (omega arith)); leaves_b = s.leaves_b; leaves_c = s.leaves_c }
 
-  pub is_cut : length e ≤ r → Answers w t b c e 0
+  pub is_cut : length before ≤ e.at → Answers w before b c after 0
   is_cut h =
       record {
-        wrote = s.spelled.wrote;
-        counts = sym (fits_not (length t) w.line (omega (arith, same, s.spelled.behind)));
+        wrote = there.wrote;
+        counts = sym (fits_not (length before) w.line (omega (arith, there.behind)));
         leaves_b = s.leaves_b;
         leaves_c = s.leaves_c;
       }

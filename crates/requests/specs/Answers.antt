@@ -4,7 +4,8 @@ use Rattle.image.specs.Stores.{retire_leaves}
 use Rattle.rules.specs.Program.{under}
 use Rattle.runfile.specs.RunFile.{written}
 use Rattle.slots.specs.Slots.{pick}
-use Rattle.text.specs.Spelled.{Spelled}
+use Rattle.text.specs.Texts.{Puts}
+use Rattle.text.specs.declared.Text.{Text}
 use Rattle.words.specs.Wrote.{Wrote}
 use Rattle.requests.specs.Lines.{bad_line, load_line, read_line, retire_line, save_line, saved_into, step_line, write_line}
 
@@ -28,9 +29,9 @@ answered kind l a b c =
     (pick (eqb kind 6) (said (save_line a c) b (saved_into a c))
     (said bad_line b c))))))
 
--- the line was spelled at the front of the text t, which is then e, up to the place r; and this is what stands in B and C
-pub record Spells (w : Answered) (t b c e : List ℕ) (r : ℕ) : Type 0 where
-  pub spelled : Spelled t 0 w.line e r
+-- the line is put into the text t, which is then e; and this is what stands in B and C
+pub record Spells (w : Answered) (t : Text) (b c : List ℕ) (e : Text) : Type 0 where
+  pub puts : Puts t w.line e
   pub leaves_b : b ≡ w.b
   pub leaves_c : c ≡ w.c
 

@@ -7,13 +7,13 @@ use Rattle.layout.specs.Image.{image_length}
 use Rattle.rules.specs.Bytes.{stepped}
 use Rattle.rules.specs.PairSlots.{answer_number}
 use Rattle.rules.specs.Program.{under}
-use Rattle.rules.specs.declared.Answer.{Answer}
 use Rattle.rules.specs.declared.Pair.{Pair}
-use Rattle.rules.specs.declared.Shown.{Shown}
-use Rattle.rules.specs.declared.Shown.TheVariants.{Entry, Nothing}
 use Rattle.runfile.specs.RunFile.{read_answer, read_events, read_limit, read_program, write_answer, written}
 use Rattle.text.specs.Lines.{entry_text, hex_field, line_end, number_field}
 use Rattle.text.specs.Numbers.{decimal}
+use Rattle.rules.specs.declared.RecordEntry.{RecordEntry}
+use Rattle.rules.specs.Answer.{Answer}
+use Rattle.std.specs.Prelude.{Some, None, Option}
 
 -- ---- fields
 
@@ -30,9 +30,9 @@ unfoldable pub saved_field : Pair → List ℕ
 saved_field s = hex_field (save_leaves s (zeros image_length))
 
 -- "its record entry in decimal (0 0 0 where there is none)"
-unfoldable pub shown_field : Shown → List ℕ
-shown_field Nothing = 32 ∷ entry_text 0 0 0
-shown_field (Entry e) = 32 ∷ entry_text e.op.0 e.device e.word
+unfoldable pub shown_field : Option RecordEntry → List ℕ
+shown_field None = 32 ∷ entry_text 0 0 0
+shown_field (Some e) = 32 ∷ entry_text e.op.0 e.device e.word
 
 -- `L HEX-of-the-program HEX-of-the-events`
 unfoldable pub parts_fields : List ℕ → List ℕ

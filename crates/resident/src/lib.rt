@@ -3,13 +3,13 @@
 
 ghost use Rattle.resident.specs.Applies.{Applies};
 
-use rules::{Answer, Pair, Shown};
+use rules::{Answer, Pair, RecordEntry};
 
 // What an event gives beside the pair that it leaves: the answer, and what the devices are shown.
 #[derive(Clone, Copy)]
 pub struct Applied {
     pub answer: Answer,
-    pub shown: Shown,
+    pub shown: Option<RecordEntry>,
 }
 
 // "The resident monitor applies an event to the pair in its own store, without copying it out."

@@ -4,7 +4,12 @@ use Prim.Native.Nat.{◌≤◌, ℕ}
 use lib.Dec.{eqb, lit≤}
 use native.Mathlib.Omega.{arith}
 use Rattle.slots.specs.Slots.{pick}
-use Rattle.rules.specs.{Events.number, PairSlots.answer_number, declared.{Answer.Answer, Answer.TheVariants.{Refused, Taken}, Refusal.Refusal, Refusal.TheVariants.{BadFile, BadProgram, Dead, EpochsUsedUp, InboxFull, Malformed, MustWait, OutOfTurn, TooShort, UnknownOperation, Unsound}}}
+use Rattle.rules.specs.Events.{number}
+use Rattle.rules.specs.PairSlots.{answer_number}
+use Rattle.rules.specs.declared.Refusal.{Refusal}
+use Rattle.rules.specs.declared.Refusal.TheVariants.{BadFile, BadProgram, Dead, EpochsUsedUp, InboxFull, Malformed, MustWait, OutOfTurn, TooShort, UnknownOperation, Unsound}
+use Rattle.rules.specs.Answer.{Answer}
+use Rattle.std.specs.Prelude.{Ok, Err}
 
 -- the refusal of a number
 named : ℕ → Refusal
@@ -34,17 +39,17 @@ pub not_zero : (why : Refusal) → 1 ≤ number why
 not_zero why = (named_number why).1
 
 -- the answer 0
-pub zero-taken : (a : Answer) → answer_number a ≡ 0 → a ≡ Taken
+pub zero-taken : (a : Answer) → answer_number a ≡ 0 → a ≡ Ok tt
 unfolding answer_number
-zero-taken Taken q = refl
-zero-taken (Refused why) q = absurd (let k = not_zero why in omega arith)
+zero-taken (Ok tt) q = refl
+zero-taken (Err why) q = absurd (let k = not_zero why in omega arith)
 
-pub taken-zero : {a : Answer} → a ≡ Taken → answer_number a ≡ 0
+pub taken-zero : {a : Answer} → a ≡ Ok tt → answer_number a ≡ 0
 unfolding answer_number
 taken-zero q = ap answer_number q
 
 -- every other is a refusal
-pub is-refused : (a : Answer) → (answer_number a ≡ 0 → ⊥) → (why : Refusal) × (a ≡ Refused why)
+pub is-refused : (a : Answer) → (answer_number a ≡ 0 → ⊥) → (why : Refusal) × (a ≡ Err why)
 unfolding answer_number
-is-refused Taken q = absurd (q refl)
-is-refused (Refused why) q = (why, refl)
+is-refused (Ok tt) q = absurd (q refl)
+is-refused (Err why) q = (why, refl)

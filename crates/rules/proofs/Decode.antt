@@ -12,16 +12,15 @@ use Rattle.rules.proofs.Choices.{by_cases, pick_case}
 use Rattle.rules.proofs.Effect.{Inside}
 use Rattle.rules.specs.Decode.{allow, decode, fetch, instr_of, is_bad}
 use Rattle.rules.specs.Program.{Setup, bad, good, good_program, good_up_to, instr}
-use Rattle.rules.specs.declared.Decoded.{Decoded}
-use Rattle.rules.specs.declared.Decoded.TheVariants.{Bad, Good}
 use Rattle.rules.specs.declared.Guest.{Guest}
 use Rattle.rules.specs.declared.Instr.{Instr}
 use Rattle.rules.specs.declared.Instr.TheVariants.{Add, Div, Jz, Load, Nop, SetTo, Start, Store, Sub, Take, Time, Timer}
+use Rattle.std.specs.Prelude.{Some, None, Option}
 
 -- what the decoder lets through lies inside
-abbrev InsideOf : ℕ → Decoded → Type 0
-InsideOf n (Good i) = Inside n i
-InsideOf n Bad = Unit
+abbrev InsideOf : ℕ → Option Instr → Type 0
+InsideOf n (Some i) = Inside n i
+InsideOf n None = Unit
 
 allow_inside : (n : ℕ) (b : Bool) (i : Instr) → (b ≡ true → Inside n i) → InsideOf n (allow b i)
 unfolding allow
@@ -44,20 +43,20 @@ decode_inside c x y z n =
     pick_case (InsideOf n) (eqb c 17) _ _ (λ _. allow_inside n _ (Start x y z) (λ _. tt)) λ _.
     pick_case (InsideOf n) (eqb c 18) _ _ (λ _. allow_inside n _ (Timer x) (λ _. tt)) λ _. tt
 
-pub good_inside : (c x y z n : ℕ) (i : Instr) → decode c x y z n ≡ Good i → Inside n i
+pub good_inside : (c x y z n : ℕ) (i : Instr) → decode c x y z n ≡ Some i → Inside n i
 good_inside c x y z n i q = subst (InsideOf n) q (decode_inside c x y z n)
 
 -- the instruction at pc, also where NOP stands in for a bad one
 pub instr_inside : (S : Setup) (g : Guest) → Inside S.count (instr S g)
 unfolding instr instr_of fetch
 instr_inside S g =
-    pick_case (λ (d : Decoded). Inside S.count (instr_of d)) (ltb g.pc S.count) _ Bad
+    pick_case (λ (d : Option Instr). Inside S.count (instr_of d)) (ltb g.pc S.count) _ None
     (λ _. go (decode (get_or S.code (4 * g.pc) 0) (get_or S.code (4 * g.pc + 1) 0) (get_or S.code (4 * g.pc + 2) 0) (get_or S.code (4 * g.pc + 3) 0) S.count) (decode_inside _ _ _ _ S.count))
     (λ _. tt)
   where
-    go : (d : Decoded) → InsideOf S.count d → Inside S.count (instr_of d)
-    go (Good i) a = a
-    go Bad a = tt
+    go : (d : Option Instr) → InsideOf S.count d → Inside S.count (instr_of d)
+    go (Some i) a = a
+    go None a = tt
 
 -- what a good program and L give
 pub record GoodSetup (S : Setup) : Type 0 where

@@ -17,7 +17,7 @@ use Rattle.rules.specs.declared.Instr.{Instr}
 use Rattle.rules.specs.declared.Instr.TheVariants.{Add, Div, Jz, Load, Nop, SetTo, Start, Store, Sub, Take, Time, Timer}
 use Rattle.rules.specs.declared.Ran.{Ran}
 use Rattle.rules.specs.declared.RecordEntry.{RecordEntry}
-use Rattle.rules.specs.declared.Shown.TheVariants.{Entry, Nothing}
+use Rattle.std.specs.Prelude.{Some, None}
 
 -- a jump's target lies inside a program of n instructions
 abbrev pub Inside : ℕ → Instr → Type 0
@@ -36,8 +36,8 @@ Inside n (Timer x) = Unit
 
 -- nothing is started, and the queue is as it was or has lost its oldest; or an operation is started, with the next number
 pub data Deed (g : Guest) (r : Ran) : Type 0 where
-  calm : r.shown ≡ Nothing → r.guest.table ≡ g.table → r.guest.last ≡ g.last → (r.guest.queue ≡ g.queue) ⊎ (r.guest.queue ≡ drop 1 g.queue) → Deed g r
-  begun : (e : RecordEntry) → r.shown ≡ Entry e → e.op ≡ next_op g → cannot_start g ≡ false → r.guest.table ≡ g.table ++ (next_op g ∷ []) → r.guest.last ≡ next_op g → r.guest.queue ≡ g.queue → Deed g r
+  calm : r.shown ≡ None → r.guest.table ≡ g.table → r.guest.last ≡ g.last → (r.guest.queue ≡ g.queue) ⊎ (r.guest.queue ≡ drop 1 g.queue) → Deed g r
+  begun : (e : RecordEntry) → r.shown ≡ Some e → e.op ≡ next_op g → cannot_start g ≡ false → r.guest.table ≡ g.table ++ (next_op g ∷ []) → r.guest.last ≡ next_op g → r.guest.queue ≡ g.queue → Deed g r
 
 -- n is the pc that follows where there is no jump
 pub record Effect (i : Instr) (g : Guest) (n : ℕ) (r : Ran) : Type 0 where

@@ -19,22 +19,13 @@ use Rattle.rules.proofs.GuestWhole.{WholeGuest, proper-status, whole-guest}
 use Rattle.rules.proofs.Lists.{All, all-every, all_map, any_append, any-count, count_none, every-all, folded_keeps, none-count}
 use Rattle.rules.specs.Boundary.{deliver, delivers, due, other_op, restart, rings, tell_uncertain, timer, timer_interrupt, told, uncertain}
 use Rattle.rules.specs.Guest.{listed, with_queue, with_table}
+use Rattle.rules.specs.Zeros.{zero_interrupt_lem, zero_op_lem}
 use Rattle.rules.specs.GuestSlots.{is_zero_interrupt, is_zero_op, laid_guest, seen_guest, tight_guest, used_interrupt, used_op, zero_interrupt, zero_op}
 use Rattle.rules.specs.GuestSound.{proper, sound_entry, sound_guest}
 use Rattle.rules.specs.Instruction.{cannot_start, is_device, is_timer}
 use Rattle.rules.specs.declared.Guest.{Guest}
 use Rattle.rules.specs.declared.Interrupt.{Interrupt}
 use Rattle.rules.specs.declared.OpNo.{OpNo}
-
--- an element whose numbers are all 0 is the free slot
-pub zero_op_lem : (o : OpNo) → is_zero_op o ≡ true → o ≡ zero_op
-zero_op_lem o h = λ k. record { 0 = eqb-true o.0 0 h k }
-
-pub zero_interrupt_lem : (i : Interrupt) → is_zero_interrupt i ≡ true → i ≡ zero_interrupt
-zero_interrupt_lem i h =
-    let a = and_true (eqb i.status 0 && eqb i.op.0 0) (eqb i.word 0) h in
-    let b = and_true (eqb i.status 0) (eqb i.op.0 0) a.0 in
-    λ k. record { status = eqb-true i.status 0 b.0 k; op = zero_op_lem i.op b.1 k; word = eqb-true i.word 0 a.1 k }
 
 -- ---- a guest that its slots can hold
 

@@ -27,9 +27,9 @@ pub same-epoch : (a b : EpochNo) → a.0 ≡ b.0 → a ≡ b
 same-epoch a b q = λ k. record { 0 = q k }
 
 -- the list has a member
-abbrev pub Some {ℓ} : {X : Type ℓ} → List X → Type 0
-Some [] = ⊥
-Some (x ∷ xs) = Unit
+abbrev pub NonEmpty : {X : Type 0} → List X → Type 0
+NonEmpty [] = ⊥
+NonEmpty (x ∷ xs) = Unit
 
 -- no message is of epoch e
 abbrev pub Without : EpochNo → List Message → Type 0
@@ -51,10 +51,10 @@ one-kind j k e d m n h = and_right (of_epoch d m) (eqb m.kind k) (ne_eqb m.kind 
 -- ---- what is gathered
 
 -- what is read of a message of this kind and epoch: vals, ints and tmes are so gathered
-abbrev pub reads {ℓ} : {X : Type ℓ} → ℕ → EpochNo → (Message → X) → List Message → List X
+abbrev pub reads : {X : Type 0} → ℕ → EpochNo → (Message → X) → List Message → List X
 reads k e f ms = gather (λ m. only (of_kind k e m) (f m)) ms
 
-module _ {ℓ} {X : Type ℓ} (k : ℕ) (e : EpochNo) (f : Message → X) where
+module _ {X : Type 0} (k : ℕ) (e : EpochNo) (f : Message → X) where
   reads_in : (m : Message) (ms : List Message) → of_kind k e m ≡ true → reads k e f (m ∷ ms) ≡ f m ∷ reads k e f ms
   unfolding gather place only
   reads_in m ms h = rw h
@@ -81,10 +81,10 @@ module _ {ℓ} {X : Type ℓ} (k : ℕ) (e : EpochNo) (f : Message → X) where
   reads-left s t a = reads-append s t ∙ ap (λ (l : List X). reads k e f s ++ l) (reads_none t a) ∙ append-nil (reads k e f s)
 
   -- something is read where a message is of this kind and epoch, and only there
-  pub reads_some : (s : List Message) → Some (reads k e f s) → any (of_kind k e) s ≡ true
+  pub reads_some : (s : List Message) → NonEmpty (reads k e f s) → any (of_kind k e) s ≡ true
   unfolding gather
   reads_some [] h = absurd h
-  reads_some (m ∷ s) h = by_cases (of_kind k e m) (λ q. any_here (of_kind k e) m s q) (λ q. any-later (of_kind k e) m s q ∙ reads_some s (subst Some (reads_out m s q) h))
+  reads_some (m ∷ s) h = by_cases (of_kind k e m) (λ q. any_here (of_kind k e) m s q) (λ q. any-later (of_kind k e) m s q ∙ reads_some s (subst NonEmpty (reads_out m s q) h))
 
   pub reads-empty : (s : List Message) → reads k e f s ≡ [] → any (of_kind k e) s ≡ false
   reads-empty [] h = any-nil (of_kind k e)
@@ -151,7 +151,7 @@ end_holds e = (read_other 1 e (λ (m : Message). m.word) (end e) (own-kind 1 (en
 -- ---- what is taken out
 
 -- the first Val is in the first list
-pub drop_val-left : (e : EpochNo) (s u : List Message) → Some (vals e s) → drop_val e (s ++ u) ≡ drop_val e s ++ u
+pub drop_val-left : (e : EpochNo) (s u : List Message) → NonEmpty (vals e s) → drop_val e (s ++ u) ≡ drop_val e s ++ u
 unfolding drop_val vals val_of
 drop_val-left e s u h = without-left (of_kind 1 e) s u (reads_some 1 e (λ (m : Message). m.word) s h)
 

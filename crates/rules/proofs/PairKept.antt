@@ -46,7 +46,8 @@ use Rattle.rules.specs.declared.Phase.TheVariants.{Failed, Running, Waiting}
 use Rattle.rules.specs.declared.Refusal.TheVariants.{BadProgram, Dead, EpochsUsedUp, Malformed, MustWait, OutOfTurn, UnknownOperation, Unsound}
 use Rattle.rules.specs.declared.Role.{Role}
 use Rattle.rules.specs.declared.Role.TheVariants.{Failover, Following, Promoted}
-use Rattle.rules.specs.declared.Shown.{Shown}
+use Rattle.rules.specs.declared.RecordEntry.{RecordEntry}
+use Rattle.std.specs.Prelude.{Option}
 
 -- ---- messages and interrupts
 
@@ -315,7 +316,7 @@ module _ (code : List ℕ) (s : Pair) (w : Whole s) where
 
 -- ---- the tests in front, once for all that an event keeps
 
-pub if_step {κ} : (Q : Pair → Shown → Type κ) (code : List ℕ) (s : Pair) (ev : Event) → (malformed ev ≡ false → Whole s → IfTaken Q (handle (setup_of code s) s ev)) → IfTaken Q (step code s ev)
+pub if_step {κ} : (Q : Pair → Option RecordEntry → Type κ) (code : List ℕ) (s : Pair) (ev : Event) → (malformed ev ≡ false → Whole s → IfTaken Q (handle (setup_of code s) s ev)) → IfTaken Q (step code s ev)
 unfolding step in_front
 if_step Q code s ev f =
     unless Q (malformed ev) Malformed _ λ m.

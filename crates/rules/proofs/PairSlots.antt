@@ -3,7 +3,7 @@ use mathlib.Core.Bool.{Bool, ◌&&◌, ◌||◌, false, not, true}
 use mathlib.Core.List.{List, []}
 use mathlib.Core.Path.{◌∙◌, ◌≡◌, ap, refl, sym}
 use Prim.Native.Nat.{◌*◌, ◌≤◌, zero-le, ℕ}
-use borrow.Author.Tests.{eqb-true, ne_eqb, not-false}
+use borrow.Author.Tests.{ne_eqb, not-false}
 use lib.Dec.{eqb, leb}
 use lib.ListN.{length}
 use native.Mathlib.Omega.{arith}
@@ -12,7 +12,7 @@ use Rattle.slots.proofs.Padded.{entries-padded, tight-laid, tight-padded}
 use Rattle.slots.proofs.Tests.{and_true, both, is_used}
 use Rattle.slots.specs.Slots.{any, every, tight}
 use Rattle.rules.proofs.Choices.{clash, pick-false}
-use Rattle.rules.proofs.GuestSlots.{FitsGuest, fits_whole, laid-seen, proper_used, seen-laid, tight-laid_guest, zero_interrupt_lem, zero_op_lem}
+use Rattle.rules.proofs.GuestSlots.{FitsGuest, fits_whole, laid-seen, proper_used, seen-laid, tight-laid_guest}
 use Rattle.rules.proofs.GuestWhole.{WholeGuest}
 use Rattle.rules.proofs.Lists.{All, all-every, all_map}
 use Rattle.rules.proofs.PairWhole.{Whole, WholeBuffer, at-most_58, buffered, whole, whole-sound}
@@ -24,6 +24,7 @@ use Rattle.rules.specs.GuestSound.{proper}
 use Rattle.rules.specs.Messages.{interrupt_of}
 use Rattle.rules.specs.Pair.{fresh_pair, setup_of}
 use Rattle.rules.specs.PairKept.{Sized, SizedCard}
+use Rattle.rules.specs.Zeros.{zero_interrupt_lem, zero_message_lem}
 use Rattle.rules.specs.PairSlots.{apply, is_zero_message, laid, laid_card, seen, seen_card, sound_pair, stored, tight_card, tight_pair, used_message, zero_message}
 use Rattle.rules.specs.Program.{Setup}
 use Rattle.rules.specs.Sound.{sound, sound_message}
@@ -34,7 +35,8 @@ use Rattle.rules.specs.declared.Interrupt.{Interrupt}
 use Rattle.rules.specs.declared.Message.{Message}
 use Rattle.rules.specs.declared.Pair.{Pair}
 use Rattle.rules.specs.declared.Refusal.TheVariants.{BadProgram, Malformed, Unsound}
-use Rattle.rules.specs.declared.Shown.{Shown}
+use Rattle.rules.specs.declared.RecordEntry.{RecordEntry}
+use Rattle.std.specs.Prelude.{Option}
 
 -- ---- what fits
 
@@ -81,14 +83,6 @@ tight_pair_lem s f =
     (tight-padded used_message zero_message refl is_zero_message refl 128 s.inbox f.inbox)
 
 -- ---- a pair in memory whose slots are tight is what it holds, laid out
-
-pub zero_message_lem : (m : Message) → is_zero_message m ≡ true → m ≡ zero_message
-zero_message_lem m h =
-    let a = and_true (eqb m.kind 0 && eqb m.status 0 && eqb m.epoch.0 0 && eqb m.op.0 0) (eqb m.word 0) h in
-    let b = and_true (eqb m.kind 0 && eqb m.status 0 && eqb m.epoch.0 0) (eqb m.op.0 0) a.0 in
-    let c = and_true (eqb m.kind 0 && eqb m.status 0) (eqb m.epoch.0 0) b.0 in
-    let d = and_true (eqb m.kind 0) (eqb m.status 0) c.0 in
-    λ k. record { kind = eqb-true m.kind 0 d.0 k; status = eqb-true m.status 0 d.1 k; epoch = record { 0 = eqb-true m.epoch.0 0 c.1 k }; op = zero_op_lem m.op b.1 k; word = eqb-true m.word 0 a.1 k }
 
 laid-seen_card : (c : Card) → SizedCard c → tight_card c ≡ true → c ≡ laid_card (seen_card c)
 unfolding tight_card laid_card seen_card
@@ -167,13 +161,13 @@ unfolding sound_pair
 sound-tight s h = (and_true (tight_pair s) (sound (seen s)) h).0
 
 -- what a taken event leaves in memory
-pub if_stored {κ ι} : (Q : Pair → Shown → Type κ) (R : Pair → Shown → Type ι) → ((s : Pair) (o : Shown) → Q s o → R (laid s) o) → (v : Verdict) → IfTaken Q v → IfTaken R (stored v)
+pub if_stored {κ ι} : (Q : Pair → Option RecordEntry → Type κ) (R : Pair → Option RecordEntry → Type ι) → ((s : Pair) (o : Option RecordEntry) → Q s o → R (laid s) o) → (v : Verdict) → IfTaken Q v → IfTaken R (stored v)
 unfolding stored
 if_stored Q R f (refused why) a = tt
 if_stored Q R f (taken s o) a = f s o a
 
 -- one event on a pair in memory, by what it does to the pair that is seen
-pub if_apply {κ} : (Q : Pair → Shown → Type κ) (code : List ℕ) (s : Pair) (ev : Event) → (malformed ev ≡ false → Whole (seen s) → IfTaken Q (stored (handle (setup_of code (seen s)) (seen s) ev))) → IfTaken Q (apply code s ev)
+pub if_apply {κ} : (Q : Pair → Option RecordEntry → Type κ) (code : List ℕ) (s : Pair) (ev : Event) → (malformed ev ≡ false → Whole (seen s) → IfTaken Q (stored (handle (setup_of code (seen s)) (seen s) ev))) → IfTaken Q (apply code s ev)
 unfolding apply in_front setup_of seen
 if_apply Q code s ev f =
     unless Q (malformed ev) Malformed _ λ m.

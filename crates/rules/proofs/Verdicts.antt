@@ -12,31 +12,31 @@ use Rattle.rules.specs.declared.Message.{Message}
 use Rattle.rules.specs.declared.Pair.{Pair}
 use Rattle.rules.specs.declared.Refusal.{Refusal}
 use Rattle.rules.specs.declared.Refusal.TheVariants.{InboxFull}
-use Rattle.rules.specs.declared.Shown.{Shown}
-use Rattle.rules.specs.declared.Shown.TheVariants.{Nothing}
+use Rattle.rules.specs.declared.RecordEntry.{RecordEntry}
+use Rattle.std.specs.Prelude.{None, Option}
 
-abbrev pub IfTaken {κ} : (Pair → Shown → Type κ) → Verdict → Type κ
+abbrev pub IfTaken {κ} : (Pair → Option RecordEntry → Type κ) → Verdict → Type κ
 IfTaken Q (refused why) = Unit
 IfTaken Q (taken s o) = Q s o
 
 -- a test of the chain
-pub unless {κ} : (Q : Pair → Shown → Type κ) (b : Bool) (why : Refusal) (v : Verdict) → (b ≡ false → IfTaken Q v) → IfTaken Q (refuse b why v)
+pub unless {κ} : (Q : Pair → Option RecordEntry → Type κ) (b : Bool) (why : Refusal) (v : Verdict) → (b ≡ false → IfTaken Q v) → IfTaken Q (refuse b why v)
 unfolding refuse
 unless Q true why v f = tt
 unless Q false why v f = f refl
 
 -- what holds of whatever is taken
-pub if_any {κ} : (Q : Pair → Shown → Type κ) → ((s : Pair) (o : Shown) → Q s o) → (v : Verdict) → IfTaken Q v
+pub if_any {κ} : (Q : Pair → Option RecordEntry → Type κ) → ((s : Pair) (o : Option RecordEntry) → Q s o) → (v : Verdict) → IfTaken Q v
 if_any Q f (refused why) = tt
 if_any Q f (taken s o) = f s o
 
 -- what follows from what is known
-pub if_map {κ ι} : (Q : Pair → Shown → Type κ) (R : Pair → Shown → Type ι) → ((s : Pair) (o : Shown) → Q s o → R s o) → (v : Verdict) → IfTaken Q v → IfTaken R v
+pub if_map {κ ι} : (Q : Pair → Option RecordEntry → Type κ) (R : Pair → Option RecordEntry → Type ι) → ((s : Pair) (o : Option RecordEntry) → Q s o → R s o) → (v : Verdict) → IfTaken Q v → IfTaken R v
 if_map Q R f (refused why) a = tt
 if_map Q R f (taken s o) a = f s o a
 
 -- LINK looks at the link
-pub if_linked {κ} : (Q : Pair → Shown → Type κ) (s : Pair) → ((m : Message) (ms : List Message) → s.link ≡ m ∷ ms → leb 128 (length s.inbox) ≡ false → Q (received s m ms) Nothing) → IfTaken Q (linked s s.link)
+pub if_linked {κ} : (Q : Pair → Option RecordEntry → Type κ) (s : Pair) → ((m : Message) (ms : List Message) → s.link ≡ m ∷ ms → leb 128 (length s.inbox) ≡ false → Q (received s m ms) None) → IfTaken Q (linked s s.link)
 unfolding linked
 if_linked Q s f = go s.link refl
   where
@@ -51,5 +51,5 @@ if_after Q ev h (refused why) i f = i
 if_after Q ev h (taken s o) i f = f
 
 -- and so of the verdict itself
-pub if_verdict {κ} : (Q : Pair → Shown → Type κ) (v : Verdict) (s : Pair) (o : Shown) → IfTaken Q v → v ≡ taken s o → Q s o
+pub if_verdict {κ} : (Q : Pair → Option RecordEntry → Type κ) (v : Verdict) (s : Pair) (o : Option RecordEntry) → IfTaken Q v → v ≡ taken s o → Q s o
 if_verdict Q v s o f q = subst (IfTaken Q) q f

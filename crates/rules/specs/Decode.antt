@@ -3,13 +3,12 @@ use Rattle.std.specs.Prelude.{Bool, true, false, ◌&&◌, List, ℕ, ◌+◌, �
 use Rattle.slots.specs.Slots.{pick}
 use Rattle.rules.specs.declared.Instr.{Instr}
 use Rattle.rules.specs.declared.Instr.TheVariants.{Nop, SetTo, Add, Sub, Div, Load, Store, Jz, Take, Time, Start, Timer}
-use Rattle.rules.specs.declared.Decoded.{Decoded}
-use Rattle.rules.specs.declared.Decoded.TheVariants.{Good, Bad}
+use Rattle.std.specs.Prelude.{Some, None, Option}
 
 -- the instruction where the test holds
-unfoldable pub allow : Bool → Instr → Decoded
-allow true i = Good i
-allow false i = Bad
+unfoldable pub allow : Bool → Instr → Option Instr
+allow true i = Some i
+allow false i = None
 
 -- "registers below 8", "unused bytes 0": none of x, y, z is used
 abbrev pub none : ℕ → ℕ → ℕ → Bool
@@ -28,7 +27,7 @@ abbrev pub three : ℕ → ℕ → ℕ → Bool
 three x y z = ltb x 8 && ltb y 8 && ltb z 8
 
 -- "Well formed: a listed code, registers below 8, device below 4, jump target below N, unused bytes 0"
-unfoldable pub decode : ℕ → ℕ → ℕ → ℕ → ℕ → Decoded
+unfoldable pub decode : ℕ → ℕ → ℕ → ℕ → ℕ → Option Instr
 decode c x y z n =
     pick (eqb c 0) (allow (none x y z) Nop)
     (pick (eqb c 1) (allow (ltb x 8) (SetTo x (256 * y + z)))
@@ -42,19 +41,19 @@ decode c x y z n =
     (pick (eqb c 16) (allow (one x y z) (Time x))
     (pick (eqb c 17) (allow (ltb x 8 && ltb y 4 && ltb z 8) (Start x y z))
     (pick (eqb c 18) (allow (one x y z) (Timer x))
-    Bad)))))))))))
+    None)))))))))))
 
 -- the instruction at pc, of a program of n instructions
-unfoldable pub fetch : List ℕ → ℕ → ℕ → Decoded
+unfoldable pub fetch : List ℕ → ℕ → ℕ → Option Instr
 fetch code n pc =
-    pick (ltb pc n) (decode (get_or code (4 * pc) 0) (get_or code (4 * pc + 1) 0) (get_or code (4 * pc + 2) 0) (get_or code (4 * pc + 3) 0) n) Bad
+    pick (ltb pc n) (decode (get_or code (4 * pc) 0) (get_or code (4 * pc + 1) 0) (get_or code (4 * pc + 2) 0) (get_or code (4 * pc + 3) 0) n) None
 
 -- not well formed
-unfoldable pub is_bad : Decoded → Bool
-is_bad (Good i) = false
-is_bad Bad = true
+unfoldable pub is_bad : Option Instr → Bool
+is_bad (Some i) = false
+is_bad None = true
 
 -- a bad instruction is refused before it runs; NOP only stands in its place
-unfoldable pub instr_of : Decoded → Instr
-instr_of (Good i) = i
-instr_of Bad = Nop
+unfoldable pub instr_of : Option Instr → Instr
+instr_of (Some i) = i
+instr_of None = Nop

@@ -2,8 +2,6 @@
 use Rattle.std.specs.Prelude.{Bool, true, false, not, ◌&&◌, ◌||◌, List, [], ◌∷◌, ℕ, ◌*◌, length, leb, eqb}
 use Rattle.slots.specs.Slots.{pick}
 use Rattle.rules.specs.declared.Guest.{Guest}
-use Rattle.rules.specs.declared.Shown.{Shown}
-use Rattle.rules.specs.declared.Shown.TheVariants.{Nothing}
 use Rattle.rules.specs.declared.Ran.{Ran}
 use Rattle.rules.specs.declared.EpochNo.{EpochNo}
 use Rattle.rules.specs.declared.Message.{Message}
@@ -23,6 +21,8 @@ use Rattle.rules.specs.GuestSound.{proper}
 use Rattle.rules.specs.Messages.{val, int, tme, end, vals, ints, tmes, has_end, drop_val, drop_epoch, first}
 use Rattle.rules.specs.Pair.{is_failed, is_waiting, clock_sent, is_promoted, next_epoch, idle, awaited, ran_on, buffers, enters, on_p, on_b, received, acknowledged, halted, noticed, setup_of, fresh_pair}
 use Rattle.rules.specs.Sound.{sound, unacknowledged}
+use Rattle.rules.specs.declared.RecordEntry.{RecordEntry}
+use Rattle.std.specs.Prelude.{None, Option}
 
 -- "Numbers that come back"
 unfoldable pub number : Refusal → ℕ
@@ -41,7 +41,7 @@ number Unsound = 11
 -- refused: the pair and the record stay as they were. taken: the next pair, and what is shown
 pub data Verdict : Type 0 where
   refused : Refusal → Verdict
-  taken : Pair → Shown → Verdict
+  taken : Pair → Option RecordEntry → Verdict
 
 -- refused for this reason where the test holds
 unfoldable pub refuse : Bool → Refusal → Verdict → Verdict
@@ -79,7 +79,7 @@ malformed (BInt i) = not (proper i)
 -- LINK (P4): "none in flight 4; inbox full 6"
 unfoldable pub linked : Pair → List Message → Verdict
 linked s [] = refused MustWait
-linked s (m ∷ ms) = refuse (leb 128 (length s.inbox)) InboxFull (taken (received s m ms) Nothing)
+linked s (m ∷ ms) = refuse (leb 128 (length s.inbox)) InboxFull (taken (received s m ms) None)
 
 -- "do the boundary of e_b with its Ints in inbox order and its first Tme there (else the word)"; "At epoch 0 no boundary is done and no clock taken"
 unfoldable pub turned : Bool → EpochNo → Guest → List Message → ℕ → Guest
@@ -98,11 +98,11 @@ ended s w Following =
     (enters s.b (turned (idle s) s.b.epoch s.b.guest s.inbox w))
     (pick (has_end (next_epoch s.b.epoch) s.inbox) Following Failover)
     (drop_epoch s.b.epoch s.inbox))
-    Nothing)
+    None)
 ended s w Failover =
-    taken (on_b s (enters s.b (turned_last s.b.epoch s.b.guest s.inbox w)) Promoted (drop_epoch s.b.epoch s.inbox)) Nothing
+    taken (on_b s (enters s.b (turned_last s.b.epoch s.b.guest s.inbox w)) Promoted (drop_epoch s.b.epoch s.inbox)) None
 ended s w Promoted =
-    taken (on_b s (enters s.b (boundary s.b.buffer w s.b.guest)) Promoted s.inbox) Nothing
+    taken (on_b s (enters s.b (boundary s.b.buffer w s.b.guest)) Promoted s.inbox) None
 
 module _ (S : Setup) where
   -- the Val that P's instruction sends, if it is TIME (P0)
@@ -123,41 +123,41 @@ module _ (S : Setup) where
   handle s (PInt i) =
       refuse (is_failed s.phase) Dead
       (refuse (not (awaited s.p i.op)) UnknownOperation
-      (taken (on_p s (buffers s.p i) s.phase (int s.p.epoch i ∷ [])) Nothing))
+      (taken (on_p s (buffers s.p i) s.phase (int s.p.epoch i ∷ [])) None))
   handle s (PTime w) =
       refuse (is_failed s.phase) Dead
       (refuse (not (complete S.limit s.p.guest) || is_waiting s.phase) OutOfTurn
-      (taken (on_p s s.p (Waiting w) (tme s.p.epoch w ∷ [])) Nothing))
+      (taken (on_p s s.p (Waiting w) (tme s.p.epoch w ∷ [])) None))
   handle s PEnd =
       refuse (is_failed s.phase) Dead
       (refuse (not (is_waiting s.phase)) OutOfTurn
       (refuse (eqb s.p.epoch.0 65535) EpochsUsedUp
       (refuse (not (eqb (unacknowledged s) 0)) MustWait
-      (taken (on_p s (enters s.p (boundary s.p.buffer (clock_sent s.phase) s.p.guest)) Running (end s.p.epoch ∷ [])) Nothing))))
+      (taken (on_p s (enters s.p (boundary s.p.buffer (clock_sent s.phase) s.p.guest)) Running (end s.p.epoch ∷ [])) None))))
   handle s Link = linked s s.link
   handle s Ack =
       refuse (is_failed s.phase) Dead
       (refuse (eqb s.acks 0) MustWait
-      (taken (acknowledged s) Nothing))
+      (taken (acknowledged s) None))
   handle s Fail =
       refuse (is_failed s.phase) Dead
-      (taken (halted s) Nothing)
+      (taken (halted s) None)
   handle s Detect =
       refuse (not (is_failed s.phase) || s.detected) OutOfTurn
       (refuse (not (eqb (length s.link) 0)) MustWait
-      (taken (noticed s) Nothing))
+      (taken (noticed s) None))
   handle s (BStep w) =
       refuse (idle s || complete S.limit s.b.guest) OutOfTurn
       (refuse (bad S s.b.guest) BadProgram
       (let ran : Ran = exec S s.b.guest (first (vals s.b.epoch s.inbox) w) in
-      taken (on_b s (ran_on s.b ran.guest) s.role (unread s.b.epoch s.b.guest s.inbox)) (pick (is_promoted s.role) ran.shown Nothing)))
+      taken (on_b s (ran_on s.b ran.guest) s.role (unread s.b.epoch s.b.guest s.inbox)) (pick (is_promoted s.role) ran.shown None)))
   handle s (BEnd w) =
       refuse (not (idle s) && not (complete S.limit s.b.guest)) OutOfTurn
       (refuse (eqb s.b.epoch.0 65535) EpochsUsedUp
       (ended s w s.role))
   handle s (BInt i) =
       refuse (is_promoted s.role && not (awaited s.b i.op)) UnknownOperation
-      (taken (pick (is_promoted s.role) (on_b s (buffers s.b i) s.role s.inbox) s) Nothing)
+      (taken (pick (is_promoted s.role) (on_b s (buffers s.b i) s.role s.inbox) s) None)
 
 -- "Order for an event: 1, 11, program length 8, the event's column, bad instruction 8"; the first three, with what `is_sound` says of the pair
 unfoldable pub in_front : Bool → List ℕ → Pair → Event → Verdict → Verdict
@@ -172,4 +172,4 @@ step code s ev = in_front (sound s) code s ev (handle (setup_of code s) s ev)
 
 -- a program and L to a fresh pair, or "program or L bad"
 unfoldable pub set_up : Setup → Verdict
-set_up S = refuse (not (good S)) BadProgram (taken (fresh_pair S) Nothing)
+set_up S = refuse (not (good S)) BadProgram (taken (fresh_pair S) None)

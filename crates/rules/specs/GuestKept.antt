@@ -7,15 +7,15 @@ use Rattle.rules.specs.Guest.{fresh}
 use Rattle.rules.specs.GuestSlots.{laid_guest, seen_guest, sound_in_memory}
 use Rattle.rules.specs.GuestSound.{proper, sound_guest}
 use Rattle.rules.specs.Instruction.{complete, next, perform}
-use Rattle.rules.specs.declared.Decoded.TheVariants.{Good}
 use Rattle.rules.specs.declared.Guest.{Guest}
 use Rattle.rules.specs.declared.Instr.{Instr}
 use Rattle.rules.specs.declared.Interrupt.{Interrupt}
+use Rattle.std.specs.Prelude.{Some}
 
 -- The acts that a guest goes through, under N and L. `Ok` is what they keep, and `on f g` does f to g.
 pub record Kept (n l : ℕ) (Ok : Guest → Type 0) (on : (Guest → Guest) → Guest → Guest) : Type 0 where
   -- "An instruction runs only while the epoch isn't complete"; it is well formed, and c is the clock reading
-  pub instruction : (code x y z : ℕ) (i : Instr) → decode code x y z n ≡ Good i → (c : ℕ) (g : Guest) → complete l g ≡ false → Ok g → Ok (on (λ h. (perform i h (next n h) c).guest) g)
+  pub instruction : (code x y z : ℕ) (i : Instr) → decode code x y z n ≡ Some i → (c : ℕ) (g : Guest) → complete l g ≡ false → Ok g → Ok (on (λ h. (perform i h (next n h) c).guest) g)
   -- "buffered device interrupts .., each leaving the table and joining the queue": one, and all, with status and fields as in PINT
   pub delivery : (i : Interrupt) → proper i ≡ true → (g : Guest) → Ok g → Ok (on (λ h. deliver h i) g)
   pub deliveries : (is : List Interrupt) → every proper is ≡ true → (g : Guest) → Ok g → Ok (on (λ h. delivers h is) g)

@@ -1,10 +1,7 @@
 -- A history: the pair, the devices' record, and each card's guest on entry to its epochs 1, 2, 3, ..
-use Rattle.std.proofs.Math.Option.{Option, none, some}
 use Rattle.std.specs.Prelude.{List, [], ◌∷◌, ◌++◌, map, eqb}
 use Rattle.rules.specs.declared.Guest.{Guest}
 use Rattle.rules.specs.declared.RecordEntry.{RecordEntry}
-use Rattle.rules.specs.declared.Shown.{Shown}
-use Rattle.rules.specs.declared.Shown.TheVariants.{Nothing, Entry}
 use Rattle.rules.specs.declared.Pair.{Pair}
 use Rattle.rules.specs.declared.Event.{Event}
 use Rattle.rules.specs.Guest.{fresh}
@@ -14,6 +11,7 @@ use Rattle.rules.specs.Messages.{only}
 use Rattle.rules.specs.Pair.{fresh_pair}
 use Rattle.rules.specs.Events.{Verdict, refused, taken, kind, step}
 use Rattle.rules.specs.PairSlots.{laid, apply}
+use Rattle.std.specs.Prelude.{Option, Some, None}
 
 -- the pair as it stands, what the devices were shown, and the guests on entry
 pub record History : Type 0 where
@@ -23,14 +21,14 @@ pub record History : Type 0 where
   pub entered_b : List Guest
 
 -- the record with what is shown at its end
-unfoldable pub recorded : List RecordEntry → Shown → List RecordEntry
-recorded es Nothing = es
-recorded es (Entry e) = es ++ (e ∷ [])
+unfoldable pub recorded : List RecordEntry → Option RecordEntry → List RecordEntry
+recorded es None = es
+recorded es (Some e) = es ++ (e ∷ [])
 
 -- the list with what was found at its end
-unfoldable pub noted {ℓ} : {X : Type ℓ} → List X → Option X → List X
-noted l none = l
-noted l (some x) = l ++ (x ∷ [])
+unfoldable pub noted : {X : Type 0} → List X → Option X → List X
+noted l None = l
+noted l (Some x) = l ++ (x ∷ [])
 
 -- a refused event leaves pair and record; PEND enters P's next epoch, BEND B's
 unfoldable pub after : Event → History → Verdict → History

@@ -4,11 +4,11 @@ use Rattle.slots.specs.Slots.{pick, count}
 use Rattle.rules.specs.declared.OpNo.{OpNo}
 use Rattle.rules.specs.declared.Interrupt.{Interrupt}
 use Rattle.rules.specs.declared.Guest.{Guest}
-use Rattle.rules.specs.declared.Shown.TheVariants.{Nothing, Entry}
 use Rattle.rules.specs.declared.Ran.{Ran}
 use Rattle.rules.specs.declared.Instr.{Instr}
 use Rattle.rules.specs.declared.Instr.TheVariants.{Nop, SetTo, Add, Sub, Div, Load, Store, Jz, Take, Time, Start, Timer}
 use Rattle.rules.specs.Guest.{with_mem, with_timer, with_last, with_table, with_queue, with_counts, onward, reg, with_reg}
+use Rattle.std.specs.Prelude.{Some, None}
 
 -- "modulo 2^32"
 abbrev pub word_size : ℕ
@@ -55,14 +55,14 @@ next_op g = record { 0 = suc g.last.0 }
 
 -- nothing is shown
 abbrev pub quiet : Guest → Ran
-quiet g = record { guest = g; shown = Nothing }
+quiet g = record { guest = g; shown = None }
 
 -- "Otherwise it takes the next number .., enters it in the table, and the word is read before r[z] is written"
 unfoldable pub starts : Guest → ℕ → ℕ → ℕ → Ran
 starts g x y z =
     record {
       guest = with_reg (with_table (with_last g (next_op g)) (g.table ++ (next_op g ∷ []))) z (next_op g).0;
-      shown = Entry (record { op = next_op g; device = y; word = reg g x });
+      shown = Some (record { op = next_op g; device = y; word = reg g x });
     }
 
 -- "START gives 0, starts nothing and shows nothing if .."

@@ -1,3 +1,4 @@
+pub mod Answer
 pub mod Guest
 pub mod Decode
 pub mod Instruction
@@ -15,3 +16,4 @@ pub mod PairKept
 pub mod Bytes
 pub mod History
 pub mod Lone
+pub mod Zeros

@@ -1,13 +1,10 @@
 -- The lone card: the same guest, with no second card.
 use Rattle.std.specs.Prelude.{Bool, true, false, not, ◌&&◌, ◌||◌, List, [], ◌∷◌, ◌++◌, map, ℕ, eqb}
-use Rattle.std.proofs.Math.Option.{Option, none, some}
 use Rattle.slots.specs.Slots.{pick}
 use Rattle.rules.specs.declared.OpNo.{OpNo}
 use Rattle.rules.specs.declared.Interrupt.{Interrupt}
 use Rattle.rules.specs.declared.Guest.{Guest}
 use Rattle.rules.specs.declared.RecordEntry.{RecordEntry}
-use Rattle.rules.specs.declared.Shown.{Shown}
-use Rattle.rules.specs.declared.Shown.TheVariants.{Nothing, Entry}
 use Rattle.rules.specs.declared.Ran.{Ran}
 use Rattle.rules.specs.Guest.{fresh, listed, ops_of}
 use Rattle.rules.specs.Instruction.{complete}
@@ -16,6 +13,7 @@ use Rattle.rules.specs.Program.{Setup, bad, exec}
 use Rattle.rules.specs.GuestSound.{says}
 use Rattle.rules.specs.Messages.{only}
 use Rattle.rules.specs.History.{recorded}
+use Rattle.std.specs.Prelude.{Option, Some, None}
 
 -- its guest, the interrupts buffered, and its record
 pub record Lone : Type 0 where
@@ -41,9 +39,9 @@ may_tell c i =
     && (eqb i.status 2 || reached i.op c.shown))
 
 -- was an operation started?
-unfoldable pub is_shown : Shown → Bool
-is_shown Nothing = false
-is_shown (Entry e) = true
+unfoldable pub is_shown : Option RecordEntry → Bool
+is_shown None = false
+is_shown (Some e) = true
 
 module _ (S : Setup) where
   -- "An instruction runs only while the epoch isn't complete"; a bad one never runs, and only an operation that was started reaches a device
@@ -63,8 +61,8 @@ module _ (S : Setup) where
   -- one step after the other; none, where one is not allowed
   unfoldable pub lone_steps : Option Lone → List LoneStep → Option Lone
   lone_steps c [] = c
-  lone_steps none (s ∷ ss) = none
-  lone_steps (some c) (s ∷ ss) = lone_steps (lone_step c s) ss
+  lone_steps None (s ∷ ss) = None
+  lone_steps (Some c) (s ∷ ss) = lone_steps (lone_step c s) ss
 
 -- a fresh guest, nothing buffered, nothing shown
 unfoldable pub fresh_lone : Lone

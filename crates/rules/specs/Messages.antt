@@ -1,10 +1,10 @@
 -- The messages from P to B: made, read, and taken out.
 use Rattle.std.specs.Prelude.{Bool, true, false, not, ◌&&◌, List, [], ◌∷◌, ℕ, eqb}
-use Rattle.std.proofs.Math.Option.{Option, none, some}
 use Rattle.slots.specs.Slots.{keep, any, without}
 use Rattle.rules.specs.declared.Interrupt.{Interrupt}
 use Rattle.rules.specs.declared.EpochNo.{EpochNo}
 use Rattle.rules.specs.declared.Message.{Message}
+use Rattle.std.specs.Prelude.{Option, Some, None}
 
 -- "kind (1 Val, 2 Int, 3 Tme, 4 end)"; unused fields 0
 unfoldable pub val : EpochNo → ℕ → Message
@@ -31,9 +31,9 @@ unfoldable pub interrupt_of : Message → Interrupt
 interrupt_of m = record { status = m.status; op = m.op; word = m.word }
 
 -- `only b x`: x where the test holds
-unfoldable pub only {ℓ} : {X : Type ℓ} → Bool → X → Option X
-only true x = some x
-only false x = none
+unfoldable pub only : {X : Type 0} → Bool → X → Option X
+only true x = Some x
+only false x = None
 
 -- the clock in a Val of epoch e, the interrupt in an Int of e, the clock in a Tme of e
 unfoldable pub val_of : EpochNo → Message → Option ℕ
@@ -50,12 +50,12 @@ unfoldable pub is_end : EpochNo → Message → Bool
 is_end e m = of_kind 4 e m
 
 -- what was found, in front of the rest
-unfoldable pub place {ℓ} : {X : Type ℓ} → Option X → List X → List X
-place none l = l
-place (some x) l = x ∷ l
+unfoldable pub place : {X : Type 0} → Option X → List X → List X
+place None l = l
+place (Some x) l = x ∷ l
 
 -- what f finds in the messages, in their order
-unfoldable pub gather {ℓ} : {X : Type ℓ} → (Message → Option X) → List Message → List X
+unfoldable pub gather : {X : Type 0} → (Message → Option X) → List Message → List X
 gather f [] = []
 gather f (m ∷ ms) = place (f m) (gather f ms)
 

@@ -8,7 +8,8 @@ use Rattle.rules.specs.Sound.{sound}
 use Rattle.rules.specs.declared.Card.{Card}
 use Rattle.rules.specs.declared.Event.{Event}
 use Rattle.rules.specs.declared.Pair.{Pair}
-use Rattle.rules.specs.declared.Shown.{Shown}
+use Rattle.rules.specs.declared.RecordEntry.{RecordEntry}
+use Rattle.std.specs.Prelude.{Option}
 
 -- the lengths that the types of the arrays give
 pub record SizedCard (c : Card) : Type 0 where
@@ -28,11 +29,11 @@ pub record PairKept : Type 0 where
   -- set-up, from a good program and L
   pub start : (S : Setup) → good S ≡ true → sound (fresh_pair S) ≡ true
   -- each row of the table of events, and with the tests in front of it
-  pub handled : (code : List ℕ) (s : Pair) (ev : Event) (t : Pair) (o : Shown) → sound s ≡ true → malformed ev ≡ false → handle (setup_of code s) s ev ≡ taken t o → sound t ≡ true
-  pub model : (code : List ℕ) (s : Pair) (ev : Event) (t : Pair) (o : Shown) → step code s ev ≡ taken t o → sound t ≡ true
+  pub handled : (code : List ℕ) (s : Pair) (ev : Event) (t : Pair) (o : Option RecordEntry) → sound s ≡ true → malformed ev ≡ false → handle (setup_of code s) s ev ≡ taken t o → sound t ≡ true
+  pub model : (code : List ℕ) (s : Pair) (ev : Event) (t : Pair) (o : Option RecordEntry) → step code s ev ≡ taken t o → sound t ≡ true
   -- a sound pair, laid out in its slots, is sound in memory, and nothing of it is cut off
   pub laid_sound : (s : Pair) → sound s ≡ true → sound_pair (laid s) ≡ true
   pub fits : (s : Pair) → sound s ≡ true → seen (laid s) ≡ s
   -- "slots filled from the front, the rest zero": a sound pair in memory is what it holds, laid out
   pub slots : (s : Pair) → Sized s → sound_pair s ≡ true → s ≡ laid (seen s)
-  pub in_memory : (code : List ℕ) (s : Pair) (ev : Event) (t : Pair) (o : Shown) → apply code s ev ≡ taken t o → sound_pair t ≡ true
+  pub in_memory : (code : List ℕ) (s : Pair) (ev : Event) (t : Pair) (o : Option RecordEntry) → apply code s ev ≡ taken t o → sound_pair t ≡ true

@@ -7,9 +7,6 @@ use Rattle.rules.specs.declared.Pair.{Pair}
 use Rattle.rules.specs.declared.Event.{Event}
 use Rattle.rules.specs.declared.Phase.TheVariants.{Running}
 use Rattle.rules.specs.declared.Role.TheVariants.{Following}
-use Rattle.rules.specs.declared.Shown.TheVariants.{Nothing}
-use Rattle.rules.specs.declared.Answer.{Answer}
-use Rattle.rules.specs.declared.Answer.TheVariants.{Taken, Refused}
 use Rattle.rules.specs.declared.Outcome.{Outcome}
 use Rattle.rules.specs.Guest.{fresh}
 use Rattle.rules.specs.GuestSlots.{used_interrupt, zero_op, zero_interrupt, is_zero_interrupt, seen_guest, laid_guest, tight_guest}
@@ -17,6 +14,8 @@ use Rattle.rules.specs.Program.{Setup}
 use Rattle.rules.specs.Pair.{setup_of}
 use Rattle.rules.specs.Sound.{sound}
 use Rattle.rules.specs.Events.{Verdict, refused, taken, number, in_front, handle, set_up}
+use Rattle.rules.specs.Answer.{Answer}
+use Rattle.std.specs.Prelude.{None, Ok, Err}
 
 -- a slot is in use when it is not zero; a message's kind tells
 abbrev pub used_message : Message → Bool
@@ -65,13 +64,13 @@ apply code s ev = in_front (sound_pair s) code s ev (stored (handle (setup_of co
 
 -- what comes back: a refused event leaves the very pair that came, and no entry
 unfoldable pub outcome : Pair → Verdict → Outcome
-outcome s (refused why) = record { answer = Refused why; pair = s; shown = Nothing }
-outcome s (taken t o) = record { answer = Taken; pair = t; shown = o }
+outcome s (refused why) = record { answer = Err why; pair = s; shown = None }
+outcome s (taken t o) = record { answer = Ok tt; pair = t; shown = o }
 
 -- "the refusal or 0"
 unfoldable pub answer_number : Answer → ℕ
-answer_number Taken = 0
-answer_number (Refused why) = number why
+answer_number (Ok tt) = 0
+answer_number (Err why) = number why
 
 -- "Where nothing is made, zeros .. stand in its place"
 unfoldable pub zero_pair : Pair

@@ -1,3 +1,4 @@
+use Rattle.std.specs.Prelude.{Option}
 pub mod Header
 pub mod Reading
 pub mod Writing

@@ -11,13 +11,13 @@ use Rattle.slots.proofs.Tests.{and_true}
 use Rattle.words.specs.Numbers.{at16, at32}
 use Rattle.forms.proofs.Part.{part_length}
 use Rattle.forms.specs.Lent.{refusing, where_taken}
-use Rattle.rules.specs.declared.Answer.TheVariants.{Taken, Refused}
 use Rattle.rules.specs.declared.Refusal.TheVariants.{BadFile}
 use Rattle.runfile.specs.RunFile.{bodies, header, is_run_file, read_answer, read_limit, read_program, read_events}
 use Rattle.runfile.proofs.Header.{Lengths, header_lengths}
+use Rattle.std.specs.Prelude.{Ok, Err}
 
 module _ (s : List ℕ) (h : is_run_file s ≡ true) where
-  pub taken : read_answer s ≡ Taken
+  pub taken : read_answer s ≡ Ok tt
   unfolding read_answer refusing
   taken = rw h
 
@@ -56,7 +56,7 @@ module _ (s : List ℕ) (h : is_run_file s ≡ true) where
   events-size = let w = whole s h in rw (events_there s h) (part_length s (bodies + at32 s 12) (at32 s 24) (omega arith))
 
 module _ (s : List ℕ) (h : is_run_file s ≡ false) where
-  pub refused : read_answer s ≡ Refused BadFile
+  pub refused : read_answer s ≡ Err BadFile
   unfolding read_answer refusing
   refused = rw h
 

@@ -17,8 +17,6 @@ use Rattle.forms.specs.Stored.{any}
 use Rattle.forms.specs.Lent.{refusing, where_taken}
 use Rattle.forms.proofs.Lawful.{Lawful, byte_lawful, half_lawful, word_lawful, always_lawful, anything, ◌and_then◌, stored_as_lawful}
 use Rattle.rules.proofs.Answers.{is-refused, taken-zero, zero-taken}
-use Rattle.rules.specs.declared.Answer.{Answer}
-use Rattle.rules.specs.declared.Answer.TheVariants.{Taken, Refused}
 use Rattle.rules.specs.declared.Refusal.{Refusal}
 use Rattle.runfile.specs.RunFile.{run_form, entry_count, program_tag, events_tag, bodies, fine_lengths, Entry, entry_of, entry, fields, Header, header_of, said_by, fields_of, fine_fields, header}
 use Rattle.runfile.specs.RunFile.{is_run_file, read_answer, read_limit, read_program, read_events, run_bytes, run_length, write_answer, written}
@@ -26,6 +24,8 @@ use Rattle.runfile.specs.RoundTrips.{Reads, ReadsWhatWasWritten, WritesWhatWasRe
 use Rattle.runfile.proofs.Header.{says-fine}
 use Rattle.runfile.proofs.Reading.{whole, taken, limit_there, program_there, events_there, program-size, events-size}
 use Rattle.runfile.proofs.Writing.{run_length_lem, room}
+use Rattle.rules.specs.Answer.{Answer}
+use Rattle.std.specs.Prelude.{Ok, Err}
 
 -- ---- the header
 
@@ -99,7 +99,7 @@ module _ (limit : ℕ) (program events : List ℕ) (fine : fine_lengths (length 
   }
 
 -- what was taken was not refused
-passed : (x : Bool) (why : Refusal) (a : Answer) → refusing x why a ≡ Taken → (x ≡ false) × (a ≡ Taken)
+passed : (x : Bool) (why : Refusal) (a : Answer) → refusing x why a ≡ Ok tt → (x ≡ false) × (a ≡ Ok tt)
 unfolding refusing
 passed false why a e = (refl, e)
 passed true why a e = let z : ◌≡◌ {A = ℕ} 0 1 = cc in absurd (omega arith)
@@ -114,7 +114,7 @@ reads_what_was_written limit program events b z =
 
 -- ---- read and written
 
-accepted : (s : List ℕ) → read_answer s ≡ Taken → is_run_file s ≡ true
+accepted : (s : List ℕ) → read_answer s ≡ Ok tt → is_run_file s ≡ true
 unfolding read_answer
 accepted s e = not-false (is_run_file s) (passed _ _ _ e).0
 
@@ -159,8 +159,8 @@ refused-write limit program events b r e w q = w.leaves ∙ rw (← w.answers, (
 
 rest : (n : ℕ) (xs b : List ℕ) → length xs ≡ n → (a : Answer) → drop n (where_taken a (xs ++ drop n b) b) ≡ drop n b
 unfolding where_taken
-rest n xs b l Taken = drop_at xs (drop n b) n l
-rest n xs b l (Refused why) = refl
+rest n xs b l (Ok tt) = drop_at xs (drop n b) n l
+rest n xs b l (Err why) = refl
 
 pub keeps_the_rest : KeepsTheRest
 unfolding written

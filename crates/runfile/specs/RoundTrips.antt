@@ -1,7 +1,7 @@
 -- What is promised of run files, over the definitions that the contracts of `check`, `limit`, `program`, `events` and `write` cite.
+use Rattle.rules.specs.Answer.{Answer}
 use Rattle.std.specs.Prelude.{◌≡◌, List, ℕ, length, take, drop}
 use Rattle.words.specs.Numbers.{Bytes}
-use Rattle.rules.specs.declared.Answer.{Answer}
 use Rattle.rules.specs.PairSlots.{answer_number}
 use Rattle.runfile.specs.RunFile.{read_answer, read_limit, read_program, read_events, run_length, write_answer, written, Writes}
 

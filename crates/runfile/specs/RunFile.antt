@@ -2,9 +2,9 @@
 use Rattle.std.specs.Prelude.{◌≡◌, Bool, not, ◌&&◌, List, [], ◌++◌, ℕ, ◌+◌, ◌%◌, eqb, leb, ltb, length, take, drop}
 use Rattle.forms.specs.Stored.{Stored, byte, half, word, always, ◌then◌, stored_as, any}
 use Rattle.forms.specs.Lent.{refusing, where_taken}
-use Rattle.rules.specs.declared.Answer.{Answer}
-use Rattle.rules.specs.declared.Answer.TheVariants.{Taken}
 use Rattle.rules.specs.declared.Refusal.TheVariants.{BadFile, TooShort}
+use Rattle.rules.specs.Answer.{Answer}
+use Rattle.std.specs.Prelude.{Ok}
 
 -- ---- the header
 
@@ -93,7 +93,7 @@ is_run_file s = let h = header.at s 0 in header.fine s 0 && eqb (length s) (bodi
 
 -- 10, "bad run file"
 unfoldable pub read_answer : List ℕ → Answer
-read_answer s = refusing (not (is_run_file s)) BadFile Taken
+read_answer s = refusing (not (is_run_file s)) BadFile (Ok tt)
 
 -- L, the program and the events of a run file; "where nothing is made, zeros or empty parts stand in its place"
 unfoldable pub read_limit : List ℕ → ℕ
@@ -122,7 +122,7 @@ unfoldable pub write_answer : List ℕ → List ℕ → List ℕ → Answer
 write_answer program events b =
     refusing (not (fine_lengths (length program) (length events))) BadFile
     (refusing (ltb (length b) (run_length program events)) TooShort
-    Taken)
+    (Ok tt))
 
 -- "writing a run file, into a longer buffer keeps the rest of it"; refused, it writes nothing
 unfoldable pub written : ℕ → List ℕ → List ℕ → List ℕ → List ℕ

@@ -91,9 +91,9 @@ pub fn check(file: &[u8]) -> Answer
     ensures { result ≡ read_answer file.now }
 {
     if is_run_file(file) {
-        return Answer::Taken;
+        return Ok(());
     }
-    Answer::Refused(Refusal::BadFile)
+    Err(Refusal::BadFile)
 }
 
 // L as a run file has it, good or not: whether a card can run under it is another question. 0 where the file is refused.
@@ -156,9 +156,7 @@ fn put_body(body: &[u8], buf: &mut [u8], at: usize)
     requires { at + length body.now ≤ length buf.old }
     ensures { Wrote buf.old at body.now buf.new }
 {
-    for i in 0..body.len() {
-        words::put8(buf, at + i, body[i]);
-    }
+    buf[at..at + body.len()].copy_from_slice(body);
 }
 
 // Writes the run file of a program and its events at the front of the buffer, and keeps what stands behind it. "10 for a length
@@ -167,14 +165,14 @@ pub fn write(limit: u16, program: &[u8], events: &[u8], buf: &mut [u8]) -> Answe
     ensures { Writes limit program.now events.now buf.old result buf.new }
 {
     if !fine_lengths(program.len(), events.len()) {
-        return Answer::Refused(Refusal::BadFile);
+        return Err(Refusal::BadFile);
     }
     let next = BODIES + program.len();
     if buf.len() < next + events.len() {
-        return Answer::Refused(Refusal::TooShort);
+        return Err(Refusal::TooShort);
     }
     put_header(limit, program.len(), events.len(), buf);
     put_body(program, buf, BODIES);
     put_body(events, buf, next);
-    Answer::Taken
+    Ok(())
 }

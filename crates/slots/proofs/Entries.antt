@@ -1,28 +1,17 @@
--- The used slots, as a loop meets them from the front.
-use mathlib.Core.Path.{◌≡◌, refl, ap, ◌∙◌}
+-- The used slots: the front of an array.
+use mathlib.Core.Path.{◌≡◌, refl, sym, ap, ◌∙◌}
+use Rattle.std.specs.Prelude.{cond}
+use Rattle.std.specs.List.{take_while}
+use Rattle.std.proofs.lemmas.List.Sums.{take_while-cons}
+use lib.ListN.{take}
 use mathlib.Core.Bool.{Bool, true, false}
 use mathlib.Core.List.{List, [], ◌∷◌}
-use Prim.Native.Nat.{ℕ, suc, ◌+◌, ◌≤◌, ◌<◌, zero-le, suc-le-suc}
-use native.Mathlib.Numerals.{add-one}
-use lib.ListN.{length, drop, get_or, drop_of_length-le}
-use lib.Seq.{drop-cons}
+use Prim.Native.Nat.{suc, ◌≤◌, zero-le, suc-le-suc}
+use lib.ListN.{length}
 use Rattle.slots.specs.Slots.{pick, entries, every}
 use Rattle.slots.proofs.Lists.{every_in, every_head}
 
 module _ {A : Type 0} (used : A → Bool) where
-  -- at place i: a used slot, a free one, the end
-  pub entries_go : (xs : List A) (i : ℕ) (d : A) → i < length xs → used (get_or xs i d) ≡ true → entries used (drop i xs) ≡ get_or xs i d ∷ entries used (drop (i + 1) xs)
-  unfolding entries
-  entries_go xs i d h u = rw (add-one, drop-cons xs i d h, u)
-
-  pub entries-stop : (xs : List A) (i : ℕ) (d : A) → i < length xs → used (get_or xs i d) ≡ false → entries used (drop i xs) ≡ []
-  unfolding entries
-  entries-stop xs i d h u = rw (drop-cons xs i d h, u)
-
-  pub entries-end : (xs : List A) (i : ℕ) → length xs ≤ i → entries used (drop i xs) ≡ []
-  unfolding entries
-  entries-end xs i h = rw (drop_of_length-le xs h)
-
   pub entries-all : (xs : List A) → every used (entries used xs) ≡ true
   unfolding entries every
   entries-all [] = refl
@@ -47,16 +36,22 @@ module _ {A : Type 0} (used : A → Bool) where
   entries-every [] e = refl
   entries-every (y ∷ ys) e = rw (every_head used y ys e).0 (ap (λ (l : List A). y ∷ l) (entries-every ys (every_head used y ys e).1))
 
--- a test of each slot from place i on
-module _ {A : Type 0} (p : A → Bool) where
-  pub every_go : (xs : List A) (i : ℕ) (d : A) → i < length xs → p (get_or xs i d) ≡ true → every p (drop i xs) ≡ every p (drop (i + 1) xs)
-  unfolding every
-  every_go xs i d h u = rw (add-one, drop-cons xs i d h, u)
+-- the used slots are the front of the array that std takes while the test holds
+module _ {A : Type 0} (used : A → Bool) where
+  pub entries_taken : (xs : List A) → entries used xs ≡ take_while used xs
+  unfolding entries
+  entries_taken [] = refl
+  entries_taken (x ∷ xs) = go (used x) refl (entries_taken xs) ∙ sym (take_while-cons used x xs)
+    where
+      go : (b : Bool) → used x ≡ b → entries used xs ≡ take_while used xs → pick b (x ∷ entries used xs) [] ≡ cond b (x ∷ take_while used xs) []
+      go true u ih = ap (λ (l : List A). x ∷ l) ih
+      go false u ih = refl
 
-  pub every-stop : (xs : List A) (i : ℕ) (d : A) → i < length xs → p (get_or xs i d) ≡ false → every p (drop i xs) ≡ false
-  unfolding every
-  every-stop xs i d h u = rw (drop-cons xs i d h, u)
-
-  pub every-end : (xs : List A) (i : ℕ) → length xs ≤ i → every p (drop i xs) ≡ true
-  unfolding every
-  every-end xs i h = rw (drop_of_length-le xs h)
+  pub entries_front : (xs : List A) → take (length (entries used xs)) xs ≡ entries used xs
+  unfolding entries
+  entries_front [] = refl
+  entries_front (x ∷ xs) = go (used x) (entries_front xs)
+    where
+      go : (b : Bool) → take (length (entries used xs)) xs ≡ entries used xs → take (length (pick b (x ∷ entries used xs) [])) (x ∷ xs) ≡ pick b (x ∷ entries used xs) []
+      go true ih = ap (λ (l : List A). x ∷ l) ih
+      go false ih = refl

@@ -75,6 +75,11 @@ module _ {A : Type 0} (p : A → Bool) where
   every_map g [] h = every-nil
   every_map g (x ∷ xs) h = every_in (g x) (map g xs) (h x) ∙ every_map g xs h
 
+  pub any_map : {B : Type 0} (g : B → A) (xs : List B) → any p (map g xs) ≡ any (λ (x : B). p (g x)) xs
+  unfolding any
+  any_map g [] = refl
+  any_map g (x ∷ xs) = ap (λ (b : Bool). p (g x) || b) (any_map g xs)
+
   -- ---- keep
 
   pub keep-length : (xs : List A) → length (keep p xs) ≤ length xs

@@ -1,10 +1,12 @@
 -- Between a list and its slots: what is laid out is seen again, and slots that are tight are what they hold, laid out.
-use mathlib.Core.Path.{◌≡◌, refl, ap, ap₂, ◌∙◌}
+use mathlib.Core.Path.{◌≡◌, refl, sym, ap, ap₂, ◌∙◌}
+use native.Mathlib.Omega.{arith}
 use mathlib.Core.Bool.{Bool, true, false}
 use mathlib.Core.List.{List, [], ◌∷◌, ◌++◌}
 use Prim.Native.Nat.{ℕ, zero, suc, ◌≤◌, ◌<◌}
 use native.Mathlib.Nat.{le_of_suc-le-suc, not-suc-le-zero, le_of_lt}
-use lib.ListN.{length, drop, set, replicate}
+use lib.ListN.{length, take, drop, set, replicate}
+use Rattle.std.specs.Prelude.{min}
 use Rattle.slots.specs.Slots.{pick, entries, padded, pushed, every, tight}
 use Rattle.slots.proofs.Lists.{every_head}
 
@@ -19,6 +21,16 @@ module _ {A : Type 0} (z : A) where
   unfolding padded
   padded-nil zero = refl
   padded-nil (suc n) = ap (λ (l : List A). z ∷ l) (padded-nil n)
+
+  -- k of them copied to the front of free slots: all, or as many as there is room for
+  pub padded_copied : (n k : ℕ) (ys : List A) → k ≡ min (length ys) n → take k ys ++ drop k (replicate n z) ≡ padded n z ys
+  unfolding padded
+  padded_copied zero zero ys e = refl
+  padded_copied zero (suc k) ys e = absurd (omega (arith, e))
+  padded_copied (suc n) zero [] e = ap (λ (l : List A). z ∷ l) (sym (padded-nil n))
+  padded_copied (suc n) (suc k) [] e = absurd (omega (arith, e))
+  padded_copied (suc n) zero (y ∷ ys) e = absurd (omega (arith, e))
+  padded_copied (suc n) (suc k) (y ∷ ys) e = ap (λ (l : List A). y ∷ l) (padded_copied n k ys (omega (arith, e)))
 
   -- one more, stored at the first free slot
   pub padded_push : (n : ℕ) (ys : List A) (a : A) → length ys < n → set (padded n z ys) (length ys) a ≡ padded n z (ys ++ (a ∷ []))

@@ -1,6 +1,6 @@
 -- Lists that are filled from the front and zero behind: what an array of slots means, whatever stands in its slots.
 -- `used` is the test of use of a slot and z the free slot.
-use Rattle.std.specs.Prelude.{Bool, true, false, ◌&&◌, ◌||◌, List, [], ◌∷◌, ℕ, zero, suc, length, drop, set}
+use Rattle.std.specs.Prelude.{◌≡◌, Bool, true, false, ◌&&◌, ◌||◌, List, [], ◌∷◌, ℕ, zero, suc, length, drop, set}
 
 -- the first of two where the test holds, the second where it does not
 abbrev pub pick {ℓ} : {A : Type ℓ} → Bool → A → A → A
@@ -21,6 +21,14 @@ padded (suc n) z (y ∷ ys) = y ∷ padded n z ys
 -- a in the first free slot; where none is free, nothing is stored
 abbrev pub pushed : {A : Type 0} → (A → Bool) → List A → A → List A
 pushed used xs a = set xs (length (entries used xs)) a
+
+-- calls, of which `post` says what they may return, return what p says
+abbrev pub Computes : {A : Type 0} → (A → Bool → Type 0) → (A → Bool) → Type 0
+Computes {A} post p = (x : A) (b : Bool) → post x b → b ≡ p x
+
+-- and so with two arguments
+abbrev pub Steps : {A B : Type 0} → (B → A → B → Type 0) → (B → A → B) → Type 0
+Steps {A} {B} post f = (b : B) (x : A) (c : B) → post b x c → c ≡ f b x
 
 -- those that a test holds of, in their order
 unfoldable pub keep : {A : Type 0} → (A → Bool) → List A → List A

@@ -1,3 +1,2 @@
-pub mod Parts
-pub mod Slots
+pub mod Ascent
 pub mod Exact

@@ -1,3 +1,4 @@
 pub mod Spelled
+pub mod Texts
 pub mod Numbers
 pub mod Lines

@@ -1,7 +1,7 @@
 -- From the arrays of a sound pair to the next pair, laid out.
-use mathlib.Core.Bool.{false}
+use mathlib.Core.Bool.{Bool, ◌&&◌, ◌||◌, false, not, true}
 use mathlib.Core.List.{List, [], ◌++◌, ◌∷◌, append-nil}
-use mathlib.Core.Path.{◌∙◌, ◌≡◌, ap, sym}
+use mathlib.Core.Path.{◌∙◌, ◌≡◌, ap, refl, sym}
 use Prim.Native.Nat.{◌<◌, ℕ}
 use lib.ListN.{length, length-append, set}
 use native.Mathlib.Omega.{arith}
@@ -10,22 +10,25 @@ use Rattle.rules.proofs.PairKept.{pair-kept}
 use Rattle.rules.proofs.PairSlots.{Fits, whole-fits}
 use Rattle.rules.proofs.PairWhole.{whole}
 use Rattle.rules.specs.Events.{Verdict, handle, malformed, refused, taken}
-use Rattle.rules.specs.GuestSlots.{laid_guest, seen_guest, used_interrupt, zero_interrupt}
-use Rattle.rules.specs.Pair.{on_b, on_p, setup_of}
+use Rattle.rules.specs.Guest.{listed, ops_of}
+use Rattle.rules.specs.GuestSlots.{laid_guest, seen_guest, used_interrupt, used_op, zero_interrupt}
+use Rattle.rules.specs.Pair.{awaited, on_b, on_p, setup_of}
 use Rattle.rules.specs.PairSlots.{laid, laid_card, outcome, seen, seen_card, stored, used_message, zero_message}
 use Rattle.rules.specs.declared.Card.{Card}
 use Rattle.rules.specs.declared.Event.{Event}
 use Rattle.rules.specs.declared.Interrupt.{Interrupt}
 use Rattle.rules.specs.declared.Message.{Message}
+use Rattle.rules.specs.declared.OpNo.{OpNo}
 use Rattle.rules.specs.declared.Pair.{Pair}
 use Rattle.rules.specs.declared.Phase.{Phase}
 use Rattle.rules.specs.declared.Refusal.{Refusal}
 use Rattle.rules.specs.declared.Role.{Role}
-use Rattle.rules.specs.declared.Shown.{Shown}
 use Rattle.slots.proofs.Padded.{padded_push}
 use Rattle.slots.specs.Slots.{entries, padded, pushed}
 use Rattle.outcomes.specs.Made.{done}
 use Rattle.tidy.specs.Tidy.{Tidy, does}
+use Rattle.rules.specs.declared.RecordEntry.{RecordEntry}
+use Rattle.std.specs.Prelude.{Option}
 
 module _ (s : Pair) (t : Tidy s) where
   -- each list is what it holds, laid out
@@ -75,7 +78,7 @@ module _ (s : Pair) (t : Tidy s) where
       λ i. record { p = p-again i; phase = s.phase; b = e i; role = o; detected = s.detected; limit = s.limit; count = s.count; link = link-again i; acks = s.acks; inbox = l i }
 
   -- the next pair fits its slots
-  pub next_fits : (code : List ℕ) (ev : Event) (n : Pair) (o : Shown) → malformed ev ≡ false → handle (setup_of code s) (seen s) ev ≡ taken n o → Fits n
+  pub next_fits : (code : List ℕ) (ev : Event) (n : Pair) (o : Option RecordEntry) → malformed ev ≡ false → handle (setup_of code s) (seen s) ev ≡ taken n o → Fits n
   unfolding setup_of seen
   next_fits code ev n o m e = whole-fits n (whole n (pair-kept.handled code (seen s) ev n o t.whole m e))
 
@@ -87,15 +90,8 @@ module _ (s : Pair) (t : Tidy s) where
       let c = length-append (entries used_message s.link) (m ∷ []) in
       omega arith
 
-  pub room-inbox : (n : Pair) (m : Message) → Fits n → n.inbox ≡ entries used_message s.inbox ++ (m ∷ []) → length (entries used_message s.inbox) < 128
-  room-inbox n m f e =
-      let a = f.inbox_room in
-      let b = ap length e in
-      let c = length-append (entries used_message s.inbox) (m ∷ []) in
-      omega arith
-
 -- an event that is taken, from the rule's verdict and the next pair in memory
-pub does-taken : (code : List ℕ) (s : Pair) (ev : Event) (n : Pair) (o : Shown) (q : Pair) → handle (setup_of code s) (seen s) ev ≡ taken n o → q ≡ laid n → done q o ≡ does code s ev
+pub does-taken : (code : List ℕ) (s : Pair) (ev : Event) (n : Pair) (o : Option RecordEntry) (q : Pair) → handle (setup_of code s) (seen s) ev ≡ taken n o → q ≡ laid n → done q o ≡ does code s ev
 unfolding stored outcome
 does-taken code s ev n o q e h = ap (λ (u : Pair). done u o) h ∙ sym (ap (λ (v : Verdict). outcome s (stored v)) e)
 
@@ -128,3 +124,13 @@ module _ (s : Pair) (t : Tidy s) where
   pub b-fits : FitsGuest (seen_guest s.b.guest)
   unfolding seen seen_card
   b-fits = (whole-fits (seen s) (whole (seen s) t.whole)).b.guest
+
+-- whether an operation is awaited, by the two searches in slots: "not in P's table or already buffered"
+pub awaited_is : (c : Card) (n : OpNo) → not (awaited (seen_card c) n) ≡ not (listed n (entries used_op c.guest.table)) || listed n (ops_of (entries used_interrupt c.buffer))
+unfolding awaited seen_card seen_guest
+awaited_is c n = go (listed n (entries used_op c.guest.table)) (listed n (ops_of (entries used_interrupt c.buffer)))
+  where
+    go : (a b : Bool) → not (a && not b) ≡ not a || b
+    go true true = refl
+    go true false = refl
+    go false b = refl

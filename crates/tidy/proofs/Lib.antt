@@ -1,3 +1,2 @@
 pub mod Goes
 pub mod Taken
-pub mod Times

@@ -14,10 +14,11 @@ use Rattle.rules.specs.declared.Message.{Message}
 use Rattle.rules.specs.declared.Pair.{Pair}
 use Rattle.rules.specs.declared.Phase.{Phase}
 use Rattle.rules.specs.declared.Role.{Role}
-use Rattle.rules.specs.declared.Shown.{Shown}
 use Rattle.slots.specs.Slots.{padded, pushed}
 use Rattle.tidy.proofs.Goes.{does-taken, goes-b, goes-p, link_more, link-same, next_fits, room-link}
 use Rattle.tidy.specs.Tidy.{Tidy, does}
+use Rattle.rules.specs.declared.RecordEntry.{RecordEntry}
+use Rattle.std.specs.Prelude.{Option}
 
 -- the pair in memory with another first card and phase, and another link
 abbrev pub pair_p : Pair → Card → Phase → List Message → Pair
@@ -25,7 +26,7 @@ pair_p s c f k = record { p = c; phase = f; b = s.b; role = s.role; detected = s
 
 -- ---- an event of P's, with one message or none
 
-module _ (code : List ℕ) (s : Pair) (t : Tidy s) (ev : Event) (formed : malformed ev ≡ false) (c : Card) (f : Phase) (o : Shown) where
+module _ (code : List ℕ) (s : Pair) (t : Tidy s) (ev : Event) (formed : malformed ev ≡ false) (c : Card) (f : Phase) (o : Option RecordEntry) where
   pub taken_sending : (m : Message) → handle (setup_of code s) (seen s) ev ≡ taken (on_p (seen s) c f (m ∷ [])) o → (c' : Card) → (Fits (on_p (seen s) c f (m ∷ [])) → c' ≡ laid_card c)
       → done (pair_p s c' f (pushed used_message s.link m)) o ≡ does code s ev
   unfolding on_p seen
@@ -39,7 +40,7 @@ module _ (code : List ℕ) (s : Pair) (t : Tidy s) (ev : Event) (formed : malfor
 
 -- ---- an event of B's: another second card, role and inbox
 
-module _ (s : Pair) (t : Tidy s) (c : Card) (o : Role) (ms : List Message) (shown : Shown) where
+module _ (s : Pair) (t : Tidy s) (c : Card) (o : Role) (ms : List Message) (shown : Option RecordEntry) where
   -- from the rule's verdict, and the card and the inbox in memory
   pub taken_on : (v : Verdict) → v ≡ taken (on_b (seen s) c o ms) shown → (c' : Card) → c' ≡ laid_card c → (k : List Message) → k ≡ padded 128 zero_message ms
       → done (on_b s c' o k) shown ≡ outcome s (stored v)

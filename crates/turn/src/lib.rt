@@ -11,6 +11,7 @@ ghost use Rattle.turn.specs.InSlots.{hear_in, turned_in, turned_last_in};
 use rules::{EpochNo, Guest, Message};
 
 // An Int of epoch e is delivered; any other message is passed by.
+#[tactic(auto, unfolding(crate::specs::InSlots::hear_in))]
 fn hear(g: Guest, m: Message, e: EpochNo) -> Guest
     ensures { result ≡ hear_in e g m }
 {
@@ -21,40 +22,30 @@ fn hear(g: Guest, m: Message, e: EpochNo) -> Guest
 }
 
 // The Ints of epoch e are delivered, in inbox order.
-fn deliver_ints(g: Guest, xs: [Message; 128], e: EpochNo) -> Guest
-    ensures { result ≡ delivers_in g (ints e (entries used_message xs)) }
+fn deliver_ints(g: Guest, inbox: &[Message], e: EpochNo) -> Guest
+    ensures { result ≡ delivers_in g (ints e (entries used_message inbox.now)) }
 {
-    let mut h = g;
-    let mut i = 0;
-    while i < 128 {
-        let x = xs[i];
-        if x.kind == 0 {
-            return h;
-        }
-        h = hear(h, x, e);
-        i += 1;
-    }
-    h
+    slots::fold(inbox, g, |h, m| hear(h, m, e))
 }
 
 // The boundary of e as P told it: "its Ints in inbox order and its first Tme there (else the word)".
-pub fn turned(g: Guest, e: EpochNo, inbox: [Message; 128], word: u32) -> Guest
-    ensures { result ≡ turned_in e g (entries used_message inbox) word }
+pub fn turned(g: &Guest, e: EpochNo, inbox: &[Message], word: u32) -> Guest
+    ensures { result ≡ turned_in e g.now (entries used_message inbox.now) word }
 {
     // "At epoch 0 no boundary is done and no clock taken."
     if e.0 == 0 {
-        return g;
+        return *g;
     }
-    let heard = deliver_ints(g, inbox, e);
+    let heard = deliver_ints(*g, inbox, e);
     let clock = inbox::first_word(inbox, 3, e, word);
     boundary::close(heard, clock)
 }
 
 // The failover boundary: "with the Ints received, the first Tme if received, else the word".
-pub fn turned_last(g: Guest, e: EpochNo, inbox: [Message; 128], word: u32) -> Guest
-    ensures { result ≡ turned_last_in e g (entries used_message inbox) word }
+pub fn turned_last(g: &Guest, e: EpochNo, inbox: &[Message], word: u32) -> Guest
+    ensures { result ≡ turned_last_in e g.now (entries used_message inbox.now) word }
 {
-    let heard = deliver_ints(g, inbox, e);
+    let heard = deliver_ints(*g, inbox, e);
     let clock = inbox::first_word(inbox, 3, e, word);
     // P8: "next an uncertain interrupt .. for each operation still in the table, ascending"; the timer last
     let told = boundary::tell_uncertain(heard);

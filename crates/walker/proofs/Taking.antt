@@ -7,44 +7,44 @@ use native.Mathlib.Omega.{arith}
 use lib.Dec.{T as Holds}
 use lib.ListN.{length}
 use Rattle.desk.proofs.Going.{Going, going_more, going_stops}
-use Rattle.desk.specs.Bench.{Prints, lines, shown_line, stopped, takes}
+use Rattle.desk.specs.Bench.{PutsRun, lines, shown_line, stopped, takes}
 use Rattle.reader.proofs.Events.{moves}
 use Rattle.reader.specs.Events.{event_at, event_count, place_after}
 use Rattle.rules.specs.Bytes.{stepped}
-use Rattle.rules.specs.declared.Answer.{Answer}
-use Rattle.rules.specs.declared.Answer.TheVariants.{Refused, Taken}
 use Rattle.rules.specs.declared.Pair.{Pair}
 use Rattle.rules.specs.declared.Refusal.{Refusal}
-use Rattle.rules.specs.declared.Shown.{Shown}
-use Rattle.rules.specs.declared.Shown.TheVariants.{Entry, Nothing}
 use Rattle.runfile.specs.RunFile.{read_program}
 use Rattle.slots.specs.Slots.{pick}
-use Rattle.text.proofs.Spelled.{blank}
+use Rattle.text.proofs.Texts.{still}
 use Rattle.text.specs.Lines.{entry_length}
-use Rattle.text.specs.Spelled.{Spelled}
+use Rattle.text.specs.Texts.{Puts}
+use Rattle.text.specs.declared.Text.{Text}
 use Rattle.walker.specs.declared.Stretch.{Stretch}
 use Rattle.walker.specs.Stretches.{quiet, from, one_more, until_shown}
+use Rattle.rules.specs.declared.RecordEntry.{RecordEntry}
+use Rattle.rules.specs.Answer.{Answer}
+use Rattle.std.specs.Prelude.{Some, None, Option, Ok, Err}
 
 -- a quiet event was taken, and has no line
-quiet-taken : (a : Answer) (s : Shown) → Holds (quiet a s) → (a ≡ Taken) × (s ≡ Nothing)
+quiet-taken : (a : Answer) (s : Option RecordEntry) → Holds (quiet a s) → (a ≡ Ok tt) × (s ≡ None)
 unfolding quiet
-quiet-taken Taken Nothing h = (refl, refl)
-quiet-taken Taken (Entry e) h = absurd h
-quiet-taken (Refused why) s h = absurd h
+quiet-taken (Ok tt) None h = (refl, refl)
+quiet-taken (Ok tt) (Some e) h = absurd h
+quiet-taken (Err why) s h = absurd h
 
-module _ (file : List ℕ) (fresh : Pair) (events : ℕ) (t₀ t : List ℕ) (at : ℕ) where
+module _ (file : List ℕ) (fresh : Pair) (events : ℕ) (t₀ t : Text) where
   -- a stretch as the bench sees it, with the text that it began with. Where its last event was taken and its line is spelled, the bench would
   -- stand there too; where it was refused and the end is spelled, the bench would have ended so. It has come past the place k.
   pub record Along (k : ℕ) (z : Stretch) : Type 0 where
     pub passed : k ≤ z.at
-    pub taken : {t' : List ℕ} {at' : ℕ} → z.last.answer ≡ Taken → Spelled t at (shown_line z.last.shown) t' at' → length (shown_line z.last.shown) ≤ entry_length
-        → Going file fresh z.pair z.at events t₀ t' at'
-    pub refused : {why : Refusal} {e : List ℕ} {r : ℕ} → z.last.answer ≡ Refused why → Spelled t at (lines (stopped (Refused why) (z.at - 1))) e r
-        → Prints (lines (takes file fresh 0 (event_count file))) t₀ e r
+    pub taken : {t' : Text} → z.last.answer ≡ Ok tt → Puts t (shown_line z.last.shown) t' → length (shown_line z.last.shown) ≤ entry_length
+        → Going file fresh z.pair z.at events t₀ t'
+    pub refused : {why : Refusal} {e : Text} → z.last.answer ≡ Err why → Puts t (lines (stopped (Err why) (z.at - 1))) e
+        → PutsRun (takes file fresh 0 (event_count file)) t₀ e
 
   -- the bench stands where a stretch does
   abbrev Here : Stretch → Type 0
-  Here z = Going file fresh z.pair z.at events t₀ t at
+  Here z = Going file fresh z.pair z.at events t₀ t
 
   abbrev more : Stretch → Stretch
   more z = one_more file (read_program file) z
@@ -66,7 +66,7 @@ module _ (file : List ℕ) (fresh : Pair) (events : ℕ) (t₀ t : List ℕ) (at
   unfolding shown_line
   here k z a h =
       let was = quiet-taken z.last.answer z.last.shown h in
-      a.taken was.0 (rw was.1 blank) (rw was.1 (omega arith))
+      a.taken was.0 (rw was.1 still) (rw was.1 (omega arith))
 
   either : (k : ℕ) (b : Bool) (x y : Stretch) → (Holds b → Along k x) → Along k y → Along k (pick b x y)
   either k true x y p q = p tt
@@ -84,7 +84,7 @@ module _ (file : List ℕ) (fresh : Pair) (events : ℕ) (t₀ t : List ℕ) (at
       along left k (more z) (along_more k z (omega (arith, a.passed)) g room) (omega (arith, e, moves file z.at (rw g.count at room)))) a
 
   -- a stretch from a place where the bench stands comes past that place
-  pub stretch_along : {s : Pair} {n : ℕ} → Going file fresh s n events t₀ t at → n < events → (r : Stretch) → r ≡ until_shown file (read_program file) (from n s) (events - n) → Along (n + 1) r
+  pub stretch_along : {s : Pair} {n : ℕ} → Going file fresh s n events t₀ t → n < events → (r : Stretch) → r ≡ until_shown file (read_program file) (from n s) (events - n) → Along (n + 1) r
   unfolding until_shown quiet
   stretch_along {s} {n} g room r e =
       let left = events - (n + 1) in

@@ -3,23 +3,22 @@ use Rattle.std.specs.Prelude.{Bool, true, false, List, ℕ, zero, suc}
 use Rattle.reader.specs.Events.{event_at, place_after}
 use Rattle.resident.specs.declared.Applied.{Applied}
 use Rattle.rules.specs.Bytes.{stepped}
-use Rattle.rules.specs.declared.Answer.{Answer}
-use Rattle.rules.specs.declared.Answer.TheVariants.{Refused, Taken}
 use Rattle.rules.specs.declared.Pair.{Pair}
-use Rattle.rules.specs.declared.Shown.{Shown}
-use Rattle.rules.specs.declared.Shown.TheVariants.{Entry, Nothing}
 use Rattle.slots.specs.Slots.{pick}
 use Rattle.walker.specs.declared.Stretch.{Stretch}
+use Rattle.rules.specs.declared.RecordEntry.{RecordEntry}
+use Rattle.rules.specs.Answer.{Answer}
+use Rattle.std.specs.Prelude.{Some, None, Option, Ok, Err}
 
 -- an event was taken, and showed the devices nothing
-unfoldable pub quiet : Answer → Shown → Bool
-quiet Taken Nothing = true
-quiet Taken (Entry e) = false
-quiet (Refused why) shown = false
+unfoldable pub quiet : Answer → Option RecordEntry → Bool
+quiet (Ok tt) None = true
+quiet (Ok tt) (Some e) = false
+quiet (Err why) shown = false
 
 -- what stands for the last event where there was none: as if it was quiet
 abbrev pub none_yet : Applied
-none_yet = record { answer = Taken; shown = Nothing }
+none_yet = record { answer = Ok tt; shown = None }
 
 -- the stretch of no events, at a place and with a pair
 abbrev pub from : ℕ → Pair → Stretch

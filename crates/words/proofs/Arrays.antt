@@ -1,12 +1,15 @@
--- The laws of a loop that writes the elements of an array one behind the other, and of one that reads them into their slots.
-use mathlib.Core.Path.{◌≡◌, refl, ap, sym, ◌∙◌}
+-- The laws of a loop that writes the elements of an array one behind the other, and of an array that is made by a call for each element.
+use mathlib.Core.Path.{◌≡◌, refl, sym, ◌∙◌}
 use mathlib.Core.List.{List, [], ◌∷◌, ◌++◌, append_assoc, append-nil}
 use Prim.Native.Nat.{ℕ, zero, suc, ◌+◌, ◌*◌, ◌≤◌, ◌<◌}
-use native.Mathlib.Nat.{suc-mul, le_of_lt}
+use mathlib.Core.Logic.{⊎_elim}
+use native.Mathlib.Nat.{suc-mul, le_of_lt, eq-or-lt_of_le}
 use native.Mathlib.Numerals.{add-one}
 use native.Mathlib.Omega.{arith}
-use lib.ListN.{length, get_or, set, take, length-append}
-use lib.Seq.{take-suc, length-take-le, take_all, take-suc-set}
+use lib.ListN.{length, get_or, take, length-append}
+use denote.Param.Members.{Mut, Called}
+use Rattle.std.specs.Array.{IsFromFnResult, IsFromFnResultFrom}
+use lib.Seq.{take-suc, length-take-le, take_all}
 use Rattle.words.specs.Arrays.{each, tab}
 use Rattle.words.specs.Wrote.{Wrote}
 use Rattle.words.proofs.Wrote.{after, nothing}
@@ -53,20 +56,29 @@ module _ {A : Type 0} (f : ℕ → A) where
   length-tab zero = refl
   length-tab (suc n) = rw (length-append, length-tab n, add-one)
 
-  -- before a loop's first turn, at each, and after its last
-  pub tab-none : tab f 0 ≡ []
-  unfolding tab
-  tab-none = refl
+-- a list of n, whose elements are these
+tab_taken : {A : Type 0} (f : ℕ → A) (xs : List A) (d : A) (n : ℕ) → n ≤ length xs → ((i : ℕ) (e : A) → i < n → get_or xs i e ≡ f i) → take n xs ≡ tab f n
+unfolding tab
+tab_taken f xs d zero k h = refl
+tab_taken f xs d (suc n) k h = rw (take-suc xs n d, tab_taken f xs d n (le_of_lt k) (λ i e l. h i e (omega arith)), h n d (omega arith))
 
-  pub tab_more : (xs : List A) (i : ℕ) (v : A) → i < length xs → take i xs ≡ tab f i → v ≡ f i → take (i + 1) (set xs i v) ≡ tab f (i + 1)
-  unfolding tab
-  tab_more xs i v h p e = rw (add-one, take-suc-set xs i v h, p, e)
+pub tab_filled : {A : Type 0} (f : ℕ → A) (xs : List A) (n : ℕ) → length xs ≡ n → ((i : ℕ) (d : A) → i < n → get_or xs i d ≡ f i) → xs ≡ tab f n
+unfolding tab
+tab_filled f [] zero l h = refl
+tab_filled f [] (suc n) l h = absurd (omega arith)
+tab_filled f (x ∷ xs) n l h = sym (take_all n (x ∷ xs) (omega arith)) ∙ tab_taken f (x ∷ xs) x n (omega arith) h
 
-  pub tab-all : (xs : List A) (i n : ℕ) → length xs ≡ n → n ≤ i → i ≤ n → take i xs ≡ tab f i → xs ≡ tab f n
-  tab-all xs i n l h h' p =
-      let e : i ≡ n = omega arith in
-      let le : length xs ≤ i = omega arith in
-      sym (take_all i xs le) ∙ p ∙ ap (tab f) e
+-- calls at 0, 1, .. n - 1, each of which gives f of its number and keeps what P says of the state
+module _ {F A : Type 0} (g : Mut F (ℕ × Unit {0}) A) (P : F → Type 0) (f : ℕ → A)
+    (gives : (p q : F) (i : ℕ) (y : A) → P p → Called g p (i, tt) y q → (y ≡ f i) × P q) where
+  from_fn_at : (n : ℕ) (p : F) (ys : List A) (i j : ℕ) (d : A) → P p → IsFromFnResultFrom g p ys i n → i ≤ j → j < i + n → get_or ys j d ≡ f j
+  from_fn_at zero p ys i j d h c k l = absurd (omega arith)
+  from_fn_at (suc n) p ys i j d h c k l =
+      let now = gives p c.0 i c.1 h c.3 in
+      ⊎_elim (λ (e : i ≡ j). rw (← e) (c.2.1 d ∙ now.0)) (λ (m : i < j). from_fn_at n c.0 ys (i + 1) j d now.1 c.4 (omega arith) (omega arith)) (eq-or-lt_of_le k)
+
+  pub tab_from_fn : (p : F) (ys : List A) (n : ℕ) → P p → IsFromFnResult g p ys n → ys ≡ tab f n
+  tab_from_fn p ys n h c = tab_filled f ys n c.long (λ j d l. from_fn_at n p ys 0 j d h c.each (omega arith) (omega arith))
 
 -- the first, and then the others, which h counts from 0 again
 pub tab-first : {A : Type 0} (f h : ℕ → A) (n : ℕ) → ((j : ℕ) → f (suc j) ≡ h j) → tab f (suc n) ≡ f 0 ∷ tab h n

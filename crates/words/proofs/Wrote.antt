@@ -1,11 +1,12 @@
 -- Laws of `Wrote`: how writes are put together, and what a write leaves as it was.
 use mathlib.Core.Path.{◌≡◌, refl, ap, sym, ◌∙◌}
 use mathlib.Core.List.{List, [], ◌∷◌, ◌++◌, append_assoc}
-use Prim.Native.Nat.{ℕ, suc, ◌+◌, ◌≤◌}
+use Prim.Native.Nat.{ℕ, suc, ◌+◌, ◌≤◌, ◌<◌}
 use native.Mathlib.Nat.{add-zero, add-suc, suc-add}
+use native.Mathlib.Numerals.{add-one}
 use native.Mathlib.Omega.{arith}
-use lib.ListN.{length, take, drop, set}
-use lib.Seq.{sets, length-sets, sets-eq, set_out, take-set-le, drop-set-lt, length-take-le, drop_at, take-append_seam}
+use lib.ListN.{length, get_or, take, drop, set}
+use lib.Seq.{sets, length-sets, sets-eq, set_out, take-set-le, drop-set-lt, length-take-le, take-suc, drop_at, take-append_seam}
 use Rattle.words.specs.Wrote.{Wrote}
 
 -- ---- runs of stores
@@ -38,6 +39,11 @@ nothing = record { is = refl }
 
 pub past : {b : List ℕ} {i : ℕ} {xs : List ℕ} → length b ≤ i → Wrote b i xs b
 past {b} {i} {xs} h = record { is = sym (sets_out b i xs h) }
+
+-- bytes written one by one: one more of them
+pub more_bytes : {b c e : List ℕ} {at j : ℕ} (xs : List ℕ) (i d : ℕ) → i < length xs → Wrote b at (take i xs) c → Wrote c j (get_or xs i d ∷ []) e → j ≡ at + i
+    → Wrote b at (take (i + 1) xs) e
+more_bytes xs i d h p q place = let n : length (take i xs) ≡ i = length-take-le i xs (omega arith) in rw (add-one, take-suc xs i d) (after p q (rw n place))
 
 -- the same place, put another way
 pub placed : {b e : List ℕ} {i j : ℕ} {xs : List ℕ} → Wrote b i xs e → i ≡ j → Wrote b j xs e

@@ -4,90 +4,85 @@
 // short still gets a number, and a writer keeps to the slice that it was lent.
 #![tactic(auto)]
 
-ghost use Rattle.std.specs.Prelude.{◌≡◌, [], ◌∷◌, ◌+◌, ◌*◌, get_or};
+ghost use Rattle.std.specs.Prelude.{◌≡◌, ◌+◌};
 ghost use Rattle.words.specs.Numbers.{le8, le16, le32, at8, at16, at32};
+ghost use Rattle.words.specs.Arrays.{tab};
 ghost use Rattle.words.specs.Wrote.{Wrote};
 
-// The byte at the place k behind `at`, or 0 where the slice ends before. The sum of the two is made only where it is known to be
-// below the length, so it cannot wrap.
+use std::array;
+
+// The byte at the place k behind `at`, or 0 where the slice ends before. No slice reaches the place at which the sum saturates.
 fn byte(s: &[u8], at: usize, k: usize) -> u8
-    ensures { result ≡ get_or s.now (at + k) 0 }
+    ensures { result ≡ at8 s.now (at + k) }
 {
-    if at < s.len() {
-        if k < s.len() - at {
-            return s[at + k];
-        }
-    }
-    0
+    get8(s, at.saturating_add(k))
 }
 
 // Stores v at the place k behind `at`, where the slice has it.
 fn store(buf: &mut [u8], at: usize, k: usize, v: u8)
-    ensures { Wrote buf.old (at + k) (v ∷ []) buf.new }
+    ensures { Wrote buf.old (at + k) (le8 v) buf.new }
 {
-    if at < buf.len() {
-        if k < buf.len() - at {
-            buf[at + k] = v;
-        }
+    put8(buf, at.saturating_add(k), v);
+}
+
+// Writes the N bytes from `at` on.
+fn put_bytes<const N: usize>(buf: &mut [u8], at: usize, bytes: [u8; N])
+    ensures { Wrote buf.old at bytes.entry buf.new }
+{
+    for (k, v) in bytes.iter().enumerate() {
+        store(buf, at, k, *v);
     }
 }
 
-// The number whose bytes are a and b, the low one first. They come by value: then it is known that they are bytes.
-fn word16(a: u8, b: u8) -> u16
-    ensures { result ≡ a + b * 256 }
+// Reads the N bytes from `at` on.
+fn get_bytes<const N: usize>(s: &[u8], at: usize) -> [u8; N]
+    ensures { result ≡ tab (λ k. at8 s.now (at + k)) N }
 {
-    (a as u16) + (b as u16) * 256
-}
-
-// The number whose bytes are a, b, c and d, the lowest first.
-fn word32(a: u8, b: u8, c: u8, d: u8) -> u32
-    ensures { result ≡ a + b * 256 + c * 65536 + d * 16777216 }
-{
-    (a as u32) + (b as u32) * 256 + (c as u32) * 65536 + (d as u32) * 16777216
+    array::from_fn(|k| byte(s, at, k))
 }
 
 // Writes the byte v at `at`.
 pub fn put8(buf: &mut [u8], at: usize, v: u8)
     ensures { Wrote buf.old at (le8 v) buf.new }
 {
-    store(buf, at, 0, v);
+    if at < buf.len() {
+        buf[at] = v;
+    }
 }
 
 // Writes the two bytes of v from `at` on.
 pub fn put16(buf: &mut [u8], at: usize, v: u16)
     ensures { Wrote buf.old at (le16 v) buf.new }
 {
-    put8(buf, at, (v % 256) as u8);
-    store(buf, at, 1, (v / 256) as u8);
+    put_bytes::<2>(buf, at, v.to_le_bytes());
 }
 
 // Writes the four bytes of v from `at` on.
 pub fn put32(buf: &mut [u8], at: usize, v: u32)
     ensures { Wrote buf.old at (le32 v) buf.new }
 {
-    put8(buf, at, (v % 256) as u8);
-    store(buf, at, 1, (v / 256 % 256) as u8);
-    store(buf, at, 2, (v / 65536 % 256) as u8);
-    store(buf, at, 3, (v / 16777216) as u8);
+    put_bytes::<4>(buf, at, v.to_le_bytes());
 }
 
 // Reads the byte at `at`.
 pub fn get8(s: &[u8], at: usize) -> u8
     ensures { result ≡ at8 s.now at }
 {
-    byte(s, at, 0)
+    s.get(at).copied().unwrap_or(0)
 }
 
 // Reads the number whose two bytes stand from `at` on.
+#[tactic(auto, unfolding(crate::specs::Arrays::tab))]
 pub fn get16(s: &[u8], at: usize) -> u16
     ensures { result ≡ at16 s.now at }
 {
-    word16(get8(s, at), byte(s, at, 1))
+    u16::from_le_bytes(get_bytes(s, at))
 }
 
 // Reads the number whose four bytes stand from `at` on.
+#[tactic(auto, unfolding(crate::specs::Arrays::tab))]
 pub fn get32(s: &[u8], at: usize) -> u32
     ensures { result ≡ at32 s.now at }
 {
-    word32(get8(s, at), byte(s, at, 1), byte(s, at, 2), byte(s, at, 3))
+    u32::from_le_bytes(get_bytes(s, at))
 }

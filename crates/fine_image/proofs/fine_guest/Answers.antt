@@ -2,4 +2,4 @@ use Rattle.layout.proofs.Fine.{guest-fine}
 use Rattle.fine_image.proofs.fine_guest.Goals as goal
 
 pub returns : goal.returns
-returns c = rw (guest-fine, ← c.get8.ensures, ← c.fine_interrupts.ensures)
+returns c = rw (guest-fine, ← c.fine.ensures, ← c.fine_array.ensures)

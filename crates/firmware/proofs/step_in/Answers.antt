@@ -1,19 +1,15 @@
-use mathlib.Core.Path.{ap, sym, ◌∙◌}
-use borrow.Author.Rules.{rules}
+use Rattle.std.proofs.Common.{◌≡◌, Bool, true, false, ◌&&◌, ltb, ap, sym, ◌∙◌, rules}
+use Rattle.std.specs.Option.{is_some}
 use Rattle.rules.specs.Bytes.{stepped}
 use Rattle.rules.specs.PairSlots.{outcome}
 use Rattle.rules.specs.declared.Outcome.{Outcome}
-use Rattle.firmware.proofs.Outcomes.{room-any, room_enough, room-short}
+use Rattle.firmware.proofs.Outcomes.{room-any, room-short}
 use Rattle.firmware.proofs.step_in.Goals as goal
 
-pub returns-else-room-lt-ENTRY_LENGTH : goal.returns-else-room-lt-ENTRY_LENGTH
+pub returns-then-is_some-room : goal.returns-then-is_some-room
 unfolding stepped
-returns-else-room-lt-ENTRY_LENGTH c = c.step-outcome.ensures ∙ ap (outcome _) (room_enough _ _ (search rules))
+returns-then-is_some-room c = c.refused.ensures ∙ room-short _ _ _ (rw (← c.step-outcome.ensures, ← c.is_some.ensures) c.if-is_some-room.true)
 
-pub returns-in-Nothing : goal.returns-in-Nothing
+pub returns : goal.returns
 unfolding stepped
-returns-in-Nothing c = c.step-outcome.ensures ∙ room-any _ _ _ (ap (λ (o : Outcome). o.shown) (sym c.step-outcome.ensures) ∙ c.in-Nothing.is)
-
-pub returns-then-room-lt-ENTRY_LENGTH : goal.returns-then-room-lt-ENTRY_LENGTH
-unfolding stepped
-returns-then-room-lt-ENTRY_LENGTH c = c.refused.ensures ∙ room-short _ _ _ (search rules) (ap (λ (o : Outcome). o.shown) (sym c.step-outcome.ensures) ∙ c.in-Entry.is)
+returns c = c.step-outcome.ensures ∙ room-any _ _ _ (rw (← c.step-outcome.ensures, ← c.is_some.ensures) c.if-is_some-room.false)

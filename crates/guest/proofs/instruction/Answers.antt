@@ -10,8 +10,8 @@ returns-then-complete c = rw (c.quiet.ensures, ← c.complete.ensures, c.if-comp
 
 pub perform-requires : goal.perform-requires
 unfolding complete
-perform-requires c = let k = or_false (leb c.args.l c.args.g.done) (leb 40 c.args.g.times) (sym c.complete.ensures ∙ c.if-complete.false) in (omega (arith, leb-false c.args.l c.args.g.done k.0), omega (arith, leb-false 40 c.args.g.times k.1))
+perform-requires c = let k = or_false (leb c.args.l c.args.g.now.done) (leb 40 c.args.g.now.times) (sym c.complete.ensures ∙ c.if-complete.false) in (omega (arith, leb-false c.args.l c.args.g.now.done k.0), omega (arith, leb-false 40 c.args.g.now.times k.1))
 
 pub returns : goal.returns
 unfolding instruction_in
-returns c = rw (c.perform.ensures, c.next-pc.ensures, ← c.complete.ensures, c.if-complete.false)
+returns c = rw (c.perform.ensures, c.next.ensures, ← c.complete.ensures, c.if-complete.false)

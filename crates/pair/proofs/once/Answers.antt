@@ -1,24 +1,21 @@
-use mathlib.Core.Path.{◌∙◌, ap, sym}
-use borrow.Author.Rules.{rules}
+use Rattle.std.proofs.Common.{ap, sym, ◌∙◌}
 use Rattle.rules.specs.Guest.{ops_of}
-use Rattle.rules.specs.GuestSlots.{used_interrupt, zero_interrupt}
+use Rattle.rules.specs.GuestSlots.{used_interrupt}
 use Rattle.rules.specs.Sound.{once}
-use Rattle.slots.proofs.Entries.{entries-end, entries_go, entries-stop}
-use Rattle.slots.proofs.Tests.{is_free, is_used}
+use Rattle.slots.proofs.Entries.{entries-all}
+use Rattle.slots.specs.Slots.{every}
+use Rattle.pair.proofs.Buffered.{not_once, once_later, once-none, used_later}
 use Rattle.pair.proofs.once.Goals as goal
 
-pub returns-then-x-eq0 : goal.returns-then-x-eq0
-unfolding once ops_of
-returns-then-x-eq0 c = sym (c.loop-i.invariant.1 ∙ ap (λ l. once (ops_of l)) (entries-stop used_interrupt c.args.xs c.loop-i.i zero_interrupt (search rules) (is_free _ c.if-x-eq0.true)))
+pub loop-i-init : goal.loop-i-init
+loop-i-init c = (ap (every used_interrupt) c.used-rest.ensures ∙ entries-all used_interrupt c.args.buffer.now, ap (λ l. once (ops_of l)) (sym c.used-rest.ensures))
 
-pub returns-then-later : goal.returns-then-later
-unfolding once ops_of
-returns-then-later c = sym (c.loop-i.invariant.1 ∙ ap (λ l. once (ops_of l)) (entries_go used_interrupt c.args.xs c.loop-i.i zero_interrupt (search rules) (is_used _ c.if-x-eq0.false)) ∙ rw (← c.later.ensures, c.if-later.true))
+pub returns-then-has : goal.returns-then-has
+returns-then-has c = sym (c.loop-i.invariant.1 ∙ not_once _ _ _ c.in-Some.ensures.cases.0 c.loop-i.invariant.0 (sym c.has.ensures ∙ c.if-has.true))
 
 pub loop-i-preserved : goal.loop-i-preserved
-unfolding once ops_of
-loop-i-preserved c = (search rules, c.loop-i.invariant.1 ∙ ap (λ l. once (ops_of l)) (entries_go used_interrupt c.args.xs c.loop-i.i zero_interrupt (search rules) (is_used _ c.if-x-eq0.false)) ∙ rw (← c.later.ensures, c.if-later.false))
+loop-i-preserved c =
+    (used_later _ _ _ c.in-Some.ensures.cases.0 c.loop-i.invariant.0, c.loop-i.invariant.1 ∙ once_later _ _ _ c.in-Some.ensures.cases.0 c.loop-i.invariant.0 (sym c.has.ensures ∙ c.if-has.false))
 
 pub returns : goal.returns
-unfolding once ops_of
-returns c = sym (c.loop-i.invariant.1 ∙ ap (λ l. once (ops_of l)) (entries-end used_interrupt c.args.xs c.loop-i.i (search rules)))
+returns c = sym (c.loop-i.invariant.1 ∙ once-none _ c.in_default.ensures.cases)

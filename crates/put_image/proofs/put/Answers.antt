@@ -14,7 +14,7 @@ returns c =
     (stretch c.put_header.ensures refl
     next stretch c.put_guest.ensures (guest_lawful.form.wide _ sized.p)
     next stretch c.put_guest-2.ensures (guest_lawful.form.wide _ sized.b)
-    next stretch c.put_buffer.ensures ((array_lawful interrupt_lawful 16).form.wide _ sized.buffer)
-    next stretch c.put_buffer-2.ensures ((array_lawful interrupt_lawful 16).form.wide _ sized.own)
-    next stretch c.put_link.ensures ((array_lawful message_lawful 58).form.wide _ sized.link)
-    next stretch c.put_inbox.ensures ((array_lawful message_lawful 128).form.wide _ sized.inbox)).wrote
+    next stretch c.put_array.ensures ((array_lawful interrupt_lawful 16).form.wide _ sized.buffer)
+    next stretch c.put_array-2.ensures ((array_lawful interrupt_lawful 16).form.wide _ sized.own)
+    next stretch c.put_array-3.ensures ((array_lawful message_lawful 58).form.wide _ sized.link)
+    next stretch c.put_array-4.ensures ((array_lawful message_lawful 128).form.wide _ sized.inbox)).wrote

@@ -11,7 +11,7 @@ pub returns : goal.returns
 returns c =
     let sized : GuestSized c.args.g = guest_sized c.args.g _ c.well_formed.0 in
     (stretch c.put_front.ensures refl
-    next stretch c.put_words.ensures ((array_lawful word_lawful 8).form.wide _ sized.regs)
-    next stretch c.put_words-2.ensures ((array_lawful word_lawful 64).form.wide _ sized.mem)
-    next stretch c.put_table.ensures ((array_lawful operation_lawful 16).form.wide _ sized.table)
-    next stretch c.put_queue.ensures ((array_lawful interrupt_lawful 17).form.wide _ sized.queue)).wrote
+    next stretch c.put_array.ensures ((array_lawful word_lawful 8).form.wide _ sized.regs)
+    next stretch c.put_array-2.ensures ((array_lawful word_lawful 64).form.wide _ sized.mem)
+    next stretch c.put_array-3.ensures ((array_lawful operation_lawful 16).form.wide _ sized.table)
+    next stretch c.put_array-4.ensures ((array_lawful interrupt_lawful 17).form.wide _ sized.queue)).wrote

@@ -6,7 +6,7 @@ use Rattle.slots.specs.Slots.{entries}
 use Rattle.queue.proofs.devices.Goals as goal
 
 pub overflow_sub-result : goal.overflow_sub-result
-overflow_sub-result c = omega (arith, c.timers-timers.ensures.is, c.count-all.ensures.is, keep-length is_timer (entries used_interrupt c.args.xs))
+overflow_sub-result c = omega (arith, c.timers-timers.ensures.is, c.count-all.ensures.is, keep-length is_timer (entries used_interrupt c.args.queue.now))
 
 pub returns-clause-is : goal.returns-clause-is
-returns-clause-is c = omega (arith, c.timers-timers.ensures.is, c.count-all.ensures.is, count_split is_timer (entries used_interrupt c.args.xs))
+returns-clause-is c = omega (arith, c.timers-timers.ensures.is, c.count-all.ensures.is, count_split is_timer (entries used_interrupt c.args.queue.now))

@@ -1,18 +1,13 @@
--- A loop that writes bytes one behind the other; written so they are the body.
-use mathlib.Core.Path.{refl}
+-- The body is written over so many bytes.
+use mathlib.Core.Path.{◌≡◌, sym}
+use mathlib.Core.List.{append_assoc}
+use Prim.Native.Nat.{◌+◌, ◌-◌}
 use native.Mathlib.Omega.{arith}
-use borrow.Author.Rules.{rules}
-use Rattle.words.proofs.Wrote.{placed}
-use Rattle.forms.proofs.Loops.{writing_start, writing_more, writing_end}
-use Rattle.runfile.proofs.Writing.{each-byte}
+use lib.ListN.{length}
+use lib.Seq.{drop-drop, sets-eq}
 use Rattle.runfile.proofs.put_body.Goals as goal
 
-pub loop-i-init : goal.loop-i-init
-loop-i-init c = writing_start refl
-
-pub loop-i-preserved : goal.loop-i-preserved
-loop-i-preserved c = let so_far = c.loop-i.invariant in
-    writing_more 1 (λ x. refl) 0 so_far (search rules) (placed c.put8.ensures (omega arith))
-
 pub returns : goal.returns
-returns c = rw each-byte at (writing_end c.loop-i.invariant (search rules))
+returns c =
+    let n : c.args.at + length c.args.body.now - c.args.at ≡ length c.args.body.now = omega arith in
+    record { is = rw (n, c.copy_from_slice.ensures.after, drop-drop, ← append_assoc) (sym (sets-eq c.args.body.now c.args.buf.now c.args.at c.requires)) }

@@ -8,24 +8,24 @@ use Rattle.walker.proofs.take.Goals as goal
 -- its last event is refused
 pub overflow_sub-stretch : goal.overflow_sub-stretch
 overflow_sub-stretch c =
-    let came = stretch_along _ _ _ _ _ _ c.loop-n.invariant c.loop-n-test.true c.walk-stretch.result (rw c.program.ensures at c.walk-stretch.ensures) in
+    let came = stretch_along _ _ _ _ _ c.loop-n.invariant c.loop-n-test.true c.walk-stretch.result (rw c.program.ensures at c.walk-stretch.ensures) in
     omega (arith, came.passed)
 
-pub returns-in-Refused : goal.returns-in-Refused
-returns-in-Refused c =
-    let came = stretch_along _ _ _ _ _ _ c.loop-n.invariant c.loop-n-test.true c.walk-stretch.result (rw c.program.ensures at c.walk-stretch.ensures) in
-    came.refused c.in-Refused.is c.stop.ensures
+pub returns-in-Err : goal.returns-in-Err
+returns-in-Err c =
+    let came = stretch_along _ _ _ _ _ c.loop-n.invariant c.loop-n-test.true c.walk-stretch.result (rw c.program.ensures at c.walk-stretch.ensures) in
+    came.refused c.in-Err.is c.stop.ensures
 
 -- or taken
 pub loop-n-smaller : goal.loop-n-smaller
 loop-n-smaller c =
-    let came = stretch_along _ _ _ _ _ _ c.loop-n.invariant c.loop-n-test.true c.walk-stretch.result (rw c.program.ensures at c.walk-stretch.ensures) in
+    let came = stretch_along _ _ _ _ _ c.loop-n.invariant c.loop-n-test.true c.walk-stretch.result (rw c.program.ensures at c.walk-stretch.ensures) in
     omega (arith, came.passed)
 
 pub loop-n-preserved : goal.loop-n-preserved
 loop-n-preserved c =
-    let came = stretch_along _ _ _ _ _ _ c.loop-n.invariant c.loop-n-test.true c.walk-stretch.result (rw c.program.ensures at c.walk-stretch.ensures) in
-    came.taken c.in-Taken.is c.show-at.ensures.spelled c.show-at.ensures.short
+    let came = stretch_along _ _ _ _ _ c.loop-n.invariant c.loop-n-test.true c.walk-stretch.result (rw c.program.ensures at c.walk-stretch.ensures) in
+    came.taken c.in_default.is c.show.ensures.spelled c.show.ensures.short
 
 -- no event is left
 pub returns : goal.returns

@@ -1,11 +1,11 @@
-use Rattle.text.proofs.Spelled.{◌then◌}
+use Rattle.text.proofs.Texts.{◌then◌}
 use Rattle.requests.specs.Lines.{shown_field}
 use Rattle.requests.proofs.fields.put_shown.Goals as goal
 
-pub returns-in-Entry : goal.returns-in-Entry
+pub returns-in-Some : goal.returns-in-Some
 unfolding shown_field
-returns-in-Entry c = rw c.in-Entry.is (c.put_byte-next.ensures then c.put_entry.ensures)
+returns-in-Some c = rw c.in-Some.is (c.put_byte.ensures then c.put_entry.ensures)
 
-pub returns-in-Nothing : goal.returns-in-Nothing
+pub returns-in-None : goal.returns-in-None
 unfolding shown_field
-returns-in-Nothing c = rw c.in-Nothing.is (c.put_byte-next.ensures then c.put_entry-in-Nothing.ensures)
+returns-in-None c = rw c.in-None.is (c.put_byte.ensures then c.put_entry-in-None.ensures)

@@ -1,9 +1,11 @@
-use Rattle.text.proofs.Spelled.{◌then◌, blank}
+use Rattle.text.proofs.Texts.{◌then◌, still}
 use Rattle.requests.proofs.Lines.{loads, loads_not}
 use Rattle.requests.proofs.kinds.load.Goals as goal
+use Rattle.requests.proofs.kinds.load.Goals.{in-Ok, in_default}
 
-pub returns-in-Taken : goal.returns-in-Taken
-returns-in-Taken c = rw (loads _ c.load-loaded.ensures c.in-Taken.is) (c.put_front-at.ensures then c.put_saved-next.ensures then c.put_line_end.ensures)
-
-pub returns-in-Refused : goal.returns-in-Refused
-returns-in-Refused c = rw (loads_not _ c.load-loaded.ensures c.in-Refused.is) (c.put_front-at.ensures then blank then c.put_line_end-in-Refused.ensures)
+pub returns : goal.returns
+returns c =
+    elim c.match-loaded.branch [
+      | in-Ok w ↦ rw (loads _ c.load-loaded.ensures w.in-Ok.is) (c.put_front.ensures then w.put_saved.ensures then (rw w.text-is at c.put_line_end.ensures))
+      | in_default w ↦ rw (loads_not _ c.load-loaded.ensures w.in_default.is) (c.put_front.ensures then still then (rw w.text-is at c.put_line_end.ensures))
+    ]

@@ -1,9 +1,11 @@
-use Rattle.text.proofs.Spelled.{◌then◌, blank}
+use Rattle.text.proofs.Texts.{◌then◌, still}
 use Rattle.requests.proofs.Lines.{reads, reads_not}
 use Rattle.requests.proofs.kinds.read.Goals as goal
+use Rattle.requests.proofs.kinds.read.Goals.{in-Ok, in_default}
 
-pub returns-in-Taken : goal.returns-in-Taken
-returns-in-Taken c = rw (reads _ c.check-answer.ensures c.in-Taken.is) (c.put_front-at.ensures then c.put_parts-next.ensures then c.put_line_end.ensures)
-
-pub returns-in-Refused : goal.returns-in-Refused
-returns-in-Refused c = rw (reads_not _ c.check-answer.ensures c.in-Refused.is) (c.put_front-at.ensures then blank then c.put_line_end-in-Refused.ensures)
+pub returns : goal.returns
+returns c =
+    elim c.match-answer.branch [
+      | in-Ok w ↦ rw (reads _ c.check-answer.ensures w.in-Ok.is) (c.put_front.ensures then w.put_parts.ensures then (rw w.text-is at c.put_line_end.ensures))
+      | in_default w ↦ rw (reads_not _ c.check-answer.ensures w.in_default.is) (c.put_front.ensures then still then (rw w.text-is at c.put_line_end.ensures))
+    ]

@@ -1,7 +1,0 @@
-use Prim.Native.Nat.{◌*◌, ◌+◌}
-use Rattle.forms.proofs.Loops.{Filled}
-use Rattle.forms.specs.Stored.{word}
-use Rattle.get_image.proofs.get_regs.Given as goal
-
-abbrev pub invariant-loop-i : goal.invariant-loop-i
-invariant-loop-i l = Filled (λ j. word.at l.s (l.at + j * word.size)) 8 l.r l.i

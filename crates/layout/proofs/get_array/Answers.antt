@@ -1,0 +1,10 @@
+use mathlib.Core.Path.{◌≡◌, refl}
+use borrow.Author.Rules.{rules}
+use Prim.Native.Nat.{◌+◌, ◌*◌}
+use Rattle.words.proofs.Arrays.{tab_from_fn}
+use Rattle.layout.proofs.get_array.Goals as goal
+
+pub returns : goal.returns
+returns g c =
+    rw g.met.T.Stored.sized
+    (tab_from_fn _ (λ p. (p.0.now ≡ c.args.s.now) × (p.1.now ≡ c.args.at)) (λ k. g.T.Stored.form.at c.args.s.now (c.args.at + k * g.T.Stored.SIZE)) (λ p q i y h k. (search rules, (search rules, search rules))) _ _ _ (refl, refl) c.from_fn.ensures.items)

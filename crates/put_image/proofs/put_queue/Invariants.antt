@@ -1,6 +1,0 @@
-use Rattle.forms.proofs.Loops.{Writing}
-use Rattle.layout.specs.Fields.{interrupt}
-use Rattle.put_image.proofs.put_queue.Given as goal
-
-abbrev pub invariant-loop-i : goal.invariant-loop-i
-invariant-loop-i l = Writing interrupt.bytes 17 l.xs l.initial.buf l.at l.buf l.i

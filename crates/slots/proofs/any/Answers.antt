@@ -1,0 +1,21 @@
+use Rattle.std.proofs.Common.{sym, ap, ◌∙◌, rules}
+use Rattle.slots.specs.Slots.{any}
+use Rattle.slots.proofs.Looking.{any_found, any_past, any_over}
+use Rattle.slots.proofs.any.Goals as goal
+
+pub returns-then-test : goal.returns-then-test
+returns-then-test g c p e =
+    let xs = c.used-x-items.result.now in
+    let passes = sym (e c.x-item.result c.test.result c.test.ensures) in
+    sym (ap (any p) (sym c.used-x-items.ensures) ∙ c.loop-x.invariant p e ∙ any_found p xs c.loop-x.x-index c.x-item.result (search rules) c.x-item.is (passes ∙ c.if-test.true))
+
+pub loop-x-preserved : goal.loop-x-preserved
+loop-x-preserved g c p e =
+    let xs = c.used-x-items.result.now in
+    let passes = sym (e c.x-item.result c.test.result c.test.ensures) in
+    c.loop-x.invariant p e ∙ any_past p xs c.loop-x.x-index c.x-item.result (search rules) c.x-item.is (passes ∙ c.if-test.false)
+
+pub returns : goal.returns
+returns g c p e =
+    let xs = c.used-x-items.result.now in
+    sym (ap (any p) (sym c.used-x-items.ensures) ∙ c.loop-x.invariant p e ∙ any_over p xs c.loop-x.x-index c.loop-x-test.false)

@@ -1,8 +1,0 @@
-use native.Mathlib.Omega.{arith}
-use Rattle.text.specs.Numbers.{hex_byte}
-use Rattle.std.proofs.lemmas.Grind.{common_steps}
-use Rattle.text.proofs.put_hex_byte.Goals as goal
-
-pub returns : goal.returns
-unfolding hex_byte
-returns c = grind (arith, common_steps)

@@ -1,7 +1,0 @@
-use Rattle.text.specs.Lines.{hex_field}
-use Rattle.text.proofs.Spelled.{◌then◌}
-use Rattle.text.proofs.put_hex_field.Goals as goal
-
-pub returns : goal.returns
-unfolding hex_field
-returns c = c.put_byte-next.ensures then c.put_hex.ensures
