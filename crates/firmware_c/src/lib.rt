@@ -1,4 +1,5 @@
-// The functions of the crate firmware, under their names for C. `firmware/build` makes the archive, and firmware/shelundiyi.h declares them.
+// The functions of the crate firmware, under their names for C: they stand here once more, since a crate is a library or a static library.
+// `firmware/build` makes the archive, and firmware/shelundiyi.h declares them.
 #![tactic(auto)]
 
 ghost use Rattle.std.specs.Prelude.{◌≡◌};

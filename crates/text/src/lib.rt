@@ -1,7 +1,8 @@
 // What the programs print, as bytes: numbers, bytes and lines, put one after another into a lent text.
 //
 // Every method takes any text. What has no place in it is not stored, and all of it is then spelled: a text that is too short ends early, and
-// nothing else happens.
+// nothing else happens. So numbers are put by hand and not by `write!`, which answers an error there, and the text is a lent slice and no
+// `String`, which can run out of memory.
 #![tactic(auto)]
 
 ghost use Rattle.std.specs.Prelude.{[], ◌∷◌, ◌≤◌, ◌%◌, ◌≡◌, length};
