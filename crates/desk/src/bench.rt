@@ -11,6 +11,9 @@ ghost use Rattle.desk.specs.Bench.{Prints, PutsRun, TakesEvents, bench_run, benc
 use rules::{Answer, Outcome, Pair, RecordEntry};
 use text::Text;
 
+// What comes is kept up to this length: the longest run file has 36,892 bytes.
+pub const KEPT: usize = 65536;
+
 // The longest text that is printed of any run file: 4,096 record entries, and the end.
 pub const TEXT_LENGTH: usize = 86028;
 

@@ -2,4 +2,3 @@
 #![tactic(auto)]
 
 pub mod bench;
-pub mod printing;

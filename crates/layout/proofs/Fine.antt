@@ -6,7 +6,7 @@ use Prim.Native.Nat.{ℕ, zero, suc, ◌+◌}
 use lib.Dec.{eqb, leb, ltb}
 use Rattle.words.specs.Numbers.{at8, at16}
 use Rattle.forms.specs.Stored.{array, all}
-use Rattle.layout.specs.Fields.{interrupt, guest}
+use Rattle.layout.specs.Fields.{interrupt, message, guest}
 use Rattle.layout.specs.Image.{image_form, header}
 
 and_yes : (b : Bool) → b && true ≡ b
@@ -17,6 +17,12 @@ all_yes : (n : ℕ) → all (λ j. true) n ≡ true
 unfolding all
 all_yes zero = refl
 all_yes (suc n) = rw (all_yes n)
+
+pub interrupt-fine : (s : List ℕ) (i : ℕ) → interrupt.fine s i ≡ eqb (at8 s (i + 1)) 0
+interrupt-fine s i = simp and_yes
+
+pub message-fine : (s : List ℕ) (i : ℕ) → message.fine s i ≡ eqb (at16 s (i + 6)) 0
+message-fine s i = simp and_yes
 
 pub guest-fine : (s : List ℕ) (i : ℕ) → guest.fine s i ≡ ltb (at8 s (i + 5)) 2 && (array 17 interrupt).fine s (i + 332)
 guest-fine s i = simp (and_yes, all_yes)

@@ -28,7 +28,7 @@ unfolding first
 first_some [] m v w h = absurd h
 first_some (x ∷ l) m v w h = refl
 
-some_append : {X : Type 0} (l m : List X) → NonEmpty l → NonEmpty (l ++ m)
+some_append {ℓ} : {X : Type ℓ} (l m : List X) → NonEmpty l → NonEmpty (l ++ m)
 some_append [] m h = absurd h
 some_append (x ∷ l) m h = tt
 

@@ -4,6 +4,7 @@ pub mod Lists
 pub mod Ascending
 pub mod Effect
 pub mod Decode
+pub mod Exact
 pub mod Boundary
 pub mod GuestWhole
 pub mod GuestSlots

@@ -27,7 +27,7 @@ pub same-epoch : (a b : EpochNo) → a.0 ≡ b.0 → a ≡ b
 same-epoch a b q = λ k. record { 0 = q k }
 
 -- the list has a member
-abbrev pub NonEmpty : {X : Type 0} → List X → Type 0
+abbrev pub NonEmpty {ℓ} : {X : Type ℓ} → List X → Type 0
 NonEmpty [] = ⊥
 NonEmpty (x ∷ xs) = Unit
 

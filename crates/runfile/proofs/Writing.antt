@@ -1,10 +1,12 @@
 -- What is written of a run file.
-use mathlib.Core.Path.{◌≡◌, sym}
+use mathlib.Core.Path.{◌≡◌, refl, sym, ap}
 use mathlib.Core.Bool.{true, false}
-use mathlib.Core.List.{List, ◌++◌}
+use mathlib.Core.List.{List, [], ◌∷◌, ◌++◌}
 use Prim.Native.Nat.{ℕ, ◌≤◌, ◌<◌}
 use borrow.Author.Tests.{lt-ltb, le-ltb}
 use lib.ListN.{length, length-append}
+use Rattle.words.specs.Arrays.{each}
+use Rattle.words.specs.Numbers.{le8}
 use Rattle.words.specs.Wrote.{Wrote}
 use Rattle.forms.specs.Lent.{refusing, where_taken}
 use Rattle.forms.proofs.Lent.{at_the_front}
@@ -12,6 +14,12 @@ use Rattle.rules.specs.declared.Refusal.{Refusal}
 use Rattle.rules.specs.declared.Refusal.TheVariants.{BadFile, TooShort}
 use Rattle.runfile.specs.RunFile.{fine_lengths, header, header_of, run_bytes, run_length, write_answer, written, Writes}
 use Rattle.std.specs.Prelude.{Ok, Err}
+
+-- bytes one behind the other are themselves
+pub each-byte : (xs : List ℕ) → each le8 xs ≡ xs
+unfolding each
+each-byte [] = refl
+each-byte (x ∷ xs) = ap (λ (ys : List ℕ). x ∷ ys) (each-byte xs)
 
 module _ (limit : ℕ) (program events : List ℕ) where
   pub run_length_lem : length (run_bytes limit program events) ≡ run_length program events

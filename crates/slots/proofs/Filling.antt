@@ -36,6 +36,10 @@ module _ {A : Type 0} {n : ℕ} {z : A} {whole : List A} where
         many = omega (arith, length-append f.done (a ∷ []), f.many);
       }
 
+  -- the same count, put another way
+  pub filling_as : {rest out : List A} {j k : ℕ} → Filling n z whole rest out j → j ≡ k → Filling n z whole rest out k
+  filling_as f e = record { done = f.done; parts = f.parts; held = f.held; many = sym e ∙ f.many }
+
   -- all is put
   pub filling_end : {rest out : List A} {j : ℕ} → Filling n z whole rest out j → rest ≡ [] → out ≡ padded n z whole
   filling_end f e = f.held ∙ ap (padded n z) (sym (f.parts ∙ ap (λ (l : List A). f.done ++ l) e ∙ append-nil f.done))

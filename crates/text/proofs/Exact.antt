@@ -5,6 +5,7 @@ use mathlib.Core.Path.{◌≡◌, sym, ◌∙◌}
 use Rattle.text.specs.declared.Text.{Text}
 use Rattle.text.proofs.Texts.{puts-once}
 use Rattle.text.proofs.Text.new.Reads as new
+use Rattle.text.proofs.Text.spelled_to.Reads as spelled-to
 use Rattle.text.proofs.Text.len.Reads as len
 use Rattle.text.proofs.Text.put_byte.Reads as put_byte
 use Rattle.text.proofs.Text.put_bytes.Reads as put-bytes
@@ -23,6 +24,9 @@ Alike e e' = (e.at ≡ e'.at) × (e.bytes.now ≡ e'.bytes.now) × (e.bytes.ghos
 
 pub new_exact : (κs a r r' s s' : _) → new.Post κs a r s → new.Post κs a r' s' → Alike r r'
 new_exact κs a r r' s s' p q = (p.1.1 ∙ sym q.1.1, p.1.0 ∙ sym q.1.0, p.0 ∙ sym q.0)
+
+pub spelled_to_exact : (κs a r r' s s' : _) → spelled-to.Post κs a r s → spelled-to.Post κs a r' s' → Alike r r'
+spelled_to_exact κs a r r' s s' p q = (p.1.1 ∙ sym q.1.1, p.1.0 ∙ sym q.1.0, p.0 ∙ sym q.0)
 
 pub len_exact : (κs a r r' s s' : _) → len.Post κs a r s → len.Post κs a r' s' → r ≡ r'
 len_exact κs a r r' s s' p q = p ∙ sym q

@@ -1,8 +1,8 @@
 -- Laws of `Spelled`: how texts are put together, and what a text that is long enough holds.
 use mathlib.Core.Path.{◌≡◌, refl, ap, sym, ◌∙◌}
 use mathlib.Core.Bool.{Bool, true, false}
-use mathlib.Core.List.{List, [], ◌++◌}
-use Prim.Native.Nat.{ℕ, ◌+◌, ◌≤◌}
+use mathlib.Core.List.{List, [], ◌∷◌, ◌++◌}
+use Prim.Native.Nat.{ℕ, ◌+◌, ◌≤◌, ◌<◌}
 use native.Mathlib.Omega.{arith}
 use borrow.Author.Tests.{leb-true, leb-false}
 use lib.Dec.{leb}
@@ -16,6 +16,13 @@ use Rattle.text.specs.Spelled.{Spelled}
 -- nothing is spelled
 pub blank : {t : List ℕ} {at : ℕ} → Spelled t at [] t at
 blank {t} {at} = record { wrote = nothing; behind = omega arith }
+
+-- one byte: where it has a place, and where it has none
+pub one : {t : List ℕ} {at : ℕ} {b : ℕ} {e : List ℕ} → at < length t → Wrote t at (b ∷ []) e → Spelled t at (b ∷ []) e (at + 1)
+one {t} {at} h w = record { wrote = w; behind = omega arith }
+
+pub no_place : {t : List ℕ} {at : ℕ} {bs : List ℕ} → length t ≤ at → Spelled t at bs t at
+no_place {t} {at} {bs} h = record { wrote = past h; behind = omega arith }
 
 -- THE LAW: some bytes, and then others from the place behind them, are the bytes of both
 module _ {t u v : List ℕ} {at i j : ℕ} {xs ys : List ℕ} (p : Spelled t at xs u i) (q : Spelled u i ys v j) where
@@ -33,6 +40,9 @@ module _ {t u v : List ℕ} {at i j : ℕ} {xs ys : List ℕ} (p : Spelled t at 
 -- ---- what is spelled
 
 module _ {t : List ℕ} {at : ℕ} {bs e : List ℕ} {r : ℕ} (s : Spelled t at bs e r) where
+  pub spelled-length : length e ≡ length t
+  spelled-length = wrote-length s.wrote
+
   -- no other text, and no other place, is left by the same spelling
   pub spelled-once : {e' : List ℕ} {r' : ℕ} → Spelled t at bs e' r' → (r ≡ r') × (e ≡ e')
   spelled-once s' = (s.behind ∙ sym s'.behind, wrote-once s.wrote s'.wrote)

@@ -27,6 +27,16 @@ impl<'a> Text<'a> {
         Text { bytes, at: 0 }
     }
 
+    // A text of which the bytes before a place are spelled: what is put stands from there on. Nothing is ever stored at a place behind the
+    // text's end, and such a place stays.
+    pub fn spelled_to(bytes: &'a mut [u8], at: usize) -> Text<'a>
+        ensures same_reference { result.bytes.ghost_name ≡ bytes.entry.ghost_name }
+        ensures bytes { result.bytes.now ≡ bytes.old }
+        ensures place { result.at ≡ at }
+    {
+        Text { bytes, at }
+    }
+
     // How much of it is spelled.
     pub fn len(&self) -> usize
         ensures { result ≡ self.now.at }

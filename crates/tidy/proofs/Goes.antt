@@ -90,6 +90,13 @@ module _ (s : Pair) (t : Tidy s) where
       let c = length-append (entries used_message s.link) (m ∷ []) in
       omega arith
 
+  pub room-inbox : (n : Pair) (m : Message) → Fits n → n.inbox ≡ entries used_message s.inbox ++ (m ∷ []) → length (entries used_message s.inbox) < 128
+  room-inbox n m f e =
+      let a = f.inbox_room in
+      let b = ap length e in
+      let c = length-append (entries used_message s.inbox) (m ∷ []) in
+      omega arith
+
 -- an event that is taken, from the rule's verdict and the next pair in memory
 pub does-taken : (code : List ℕ) (s : Pair) (ev : Event) (n : Pair) (o : Option RecordEntry) (q : Pair) → handle (setup_of code s) (seen s) ev ≡ taken n o → q ≡ laid n → done q o ≡ does code s ev
 unfolding stored outcome

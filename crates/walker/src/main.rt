@@ -5,12 +5,11 @@
 #![tactic(auto)]
 
 ghost use Rattle.std.specs.Prelude.{◌≡◌};
-ghost use Rattle.desk.specs.Bench.{PutsRun, takes};
+ghost use Rattle.desk.specs.Bench.{PutsRun, printed, takes};
 ghost use Rattle.reader.specs.Events.{event_count};
 ghost use Rattle.walker.specs.Stretches.{from, none_yet, quiet, until_shown};
 
-use desk::bench::{TEXT_LENGTH, run_by, show, stop};
-use desk::printing::{KEPT, write};
+use desk::bench::{KEPT, TEXT_LENGTH, run_by, show, stop};
 use resident::Applied;
 use rules::Pair;
 use std::io;
@@ -82,6 +81,13 @@ fn take(file: &[u8], fresh: Pair, text: &mut Text)
         n = stretch.at;
     }
     stop(text, Ok(()), events);
+}
+
+// Writes what is printed of a run file, whole and alone: `main` has to show that the text is that.
+fn write(rt: &impl Print, file: &[u8], text: &[u8]) -> io::Result<()>
+    requires { text.now ≡ printed file.now }
+{
+    rt.write_all(text)
 }
 
 fn main(rt: HostRuntime) -> io::Result<()> {
